@@ -1,0 +1,4 @@
+pub mod Items
+pub mod NameForm
+pub mod Place
+pub mod Report
