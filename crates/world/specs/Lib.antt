@@ -1,0 +1,4 @@
+pub mod Command
+pub mod Walk
+pub mod Load
+pub mod Outcome

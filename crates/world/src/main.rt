@@ -1,0 +1,8 @@
+//! `world` reads directories of class files and prints which types, methods and fields an image needs.
+#![tactic(auto)]
+
+mod limits;
+mod load;
+mod walk;
+
+fn main(_rt: HostRuntime) {}
