@@ -1,5 +1,5 @@
 -- Listings rise strictly, and are known by their entries.
-use Rattle.std.proofs.Common.{◌≡◌, ◌≤◌, ℕ, ◌+◌, ◌<◌, List, [], ◌∷◌, take, drop, length, get_or, Bool, ◌&&◌, nat_eq, true, false, refl, sym, ap, subst, ◌∙◌, Option, None, Some, Ordering, ◌↔◌, IsTrue, rules, arith}
+use Rattle.std.proofs.Common.{◌≡◌, ℕ, ◌+◌, ◌<◌, List, [], ◌∷◌, drop, length, get_or, Bool, ◌&&◌, nat_eq, true, false, refl, sym, ap, subst, ◌∙◌, Option, None, Some, Ordering}
 use mathlib.Core.Bool.{beq}
 use Rattle.std.specs.declared.cmp.Ordering.TheVariants.{Less, Equal, Greater}
 use Rattle.std.specs.Option.{option_map_or}
@@ -9,7 +9,7 @@ use Rattle.std.specs.Cmp.{IsTotalOrder, IsEquivalence, both_ways, then_total, on
 use Rattle.std.specs.Cmp.Lexicographic.{pointwise, slice_cmp, lists_total, texts_ties}
 use Rattle.std.specs.List.{AllByRecursion, Contains, dedup}
 use Rattle.std.specs.List.Sorted.{IsStrictlySortedBy, IsPermutation, IsSorted}
-use Rattle.std.specs.BTreeSet.{BTreeSet, insert_key, contains}
+use Rattle.std.specs.BTreeSet.{insert_key}
 use Rattle.std.proofs.lemmas.List.Sorted.{Contains-permutation, IsPermutation-sym, IsPermutation-trans}
 use Rattle.std.proofs.lemmas.Cmp.{ranked}
 use Rattle.std.proofs.lemmas.List.Kept.{IsStrictlySortedBy-dedup, Contains-dedup, Contains-from_dedup}

@@ -23,7 +23,11 @@ pub fn sorted(entries: Items<Entry>) -> Result<Items<Entry>, AllocError>
 }
 
 /// The entries directly below a directory, sorted.
-pub fn entries_below(alloc: Global, files: &[MemFile], dir: &[u8]) -> Result<BTreeSet<Entry>, AllocError>
+pub fn entries_below(
+    alloc: Global,
+    files: &[MemFile],
+    dir: &[u8],
+) -> Result<BTreeSet<Entry>, AllocError>
     ensures { IfOk result (λ entries. entries.keys ≡ listing files.now dir.now) }
 {
     let mut entries = BTreeSet::new(alloc);

@@ -3,8 +3,11 @@
 #![tactic(auto)]
 
 mod entries;
+mod failing;
 mod sink;
 mod sink_mem;
+#[cfg(test)]
+mod tests;
 mod tree;
 mod tree_mem;
 

@@ -1,6 +1,7 @@
-ghost use Rattle.std.specs.Prelude.{◌≡◌, ◌≤◌, [], Some, IfOk, length, vec_capacity};
+ghost use Rattle.std.specs.Prelude.{◌≡◌, ◌≤◌, ◌<◌, ◌++◌, ◌↔◌, ◌⊎◌, ℕ, List, [], Some, Ok, length, take, vec_capacity, IsTrue, IsErr, IfOk, OnErr};
 ghost use Rattle.wf_io.specs.Faults.{Rose};
 
+use crate::failing::Failing;
 use crate::sink::{Sink, SinkFault};
 use std::alloc::{AllocError, Global};
 use wf_base::Items;
@@ -12,8 +13,7 @@ pub struct SinkMem {
     bytes: Vec<u8>,
     room: usize,
     step: usize,
-    failing: Items<u64>,
-    writes: u64,
+    failing: Failing,
     faults: u64,
     ghost steps: { 1 ≤ step },
     ghost fits: { length bytes.items ≤ room },
@@ -21,52 +21,49 @@ pub struct SinkMem {
 }
 
 impl SinkMem {
+    ghost use Rattle.wf_io.specs.InMemory.{bytes_of, room_of, step_of, faults_of, failing_writes, numbers_from};
+
     /// A sink with room for so many bytes, which it reserves. It takes at most `step` bytes of a piece. The
     /// writes with these numbers fail.
-    pub fn new(alloc: Global, room: usize, step: usize, failing: Items<u64>) -> Result<SinkMem, AllocError>
+    pub fn new(
+        alloc: Global,
+        room: usize,
+        step: usize,
+        failing: Items<u64>,
+    ) -> Result<SinkMem, AllocError>
         requires room { 1 ≤ room }
         requires step { 1 ≤ step }
-        ensures empty { IfOk result (λ sink. sink.bytes.items ≡ []) }
-        ensures room { IfOk result (λ sink. sink.room ≡ room) }
-        ensures step { IfOk result (λ sink. sink.step ≡ step) }
-        ensures failing { IfOk result (λ sink. sink.failing ≡ failing) }
-        ensures writes { IfOk result (λ sink. sink.writes ≡ 0) }
-        ensures faults { IfOk result (λ sink. sink.faults ≡ 0) }
+        ensures bytes { IfOk result (λ sink. bytes_of sink ≡ []) }
+        ensures room { IfOk result (λ sink. room_of sink ≡ room) }
+        ensures step { IfOk result (λ sink. step_of sink ≡ step) }
+        ensures failing { IfOk result (λ sink. failing_writes sink ≡ numbers_from failing 0) }
+        ensures faults { IfOk result (λ sink. faults_of sink ≡ 0) }
     {
         let bytes = Vec::with_capacity(alloc, room)?;
         Ok(SinkMem {
             bytes,
             room,
             step,
-            failing,
-            writes: 0,
+            failing: Failing::new(failing),
             faults: 0,
         })
     }
 
     /// The bytes taken.
     pub fn bytes(&self) -> &[u8]
-        ensures { result.now ≡ self.now.bytes.items }
+        ensures { result.now ≡ bytes_of self.now }
     {
         self.bytes.as_slice()
     }
 
-    /// Numbers a write, and answers whether it is one that fails.
-    fn begin_write(&mut self) -> bool
-        ensures bytes { self.new.bytes ≡ self.old.bytes }
-        ensures room { self.new.room ≡ self.old.room }
-        ensures faults { self.new.faults ≡ self.old.faults }
-    {
-        let number = self.writes;
-        self.writes = number.saturating_add(1);
-        self.failing.as_slice().contains(&number)
-    }
-
     /// Counts a fault.
     fn fail(&mut self) -> SinkFault
+        ensures rose { Rose (faults_of self.old) (faults_of self.new) }
+        ensures grows { faults_of self.old ≤ faults_of self.new }
         ensures bytes { self.new.bytes ≡ self.old.bytes }
-        ensures rose { Rose self.old.faults self.new.faults }
-        ensures grows { self.old.faults ≤ self.new.faults }
+        ensures room { room_of self.new ≡ room_of self.old }
+        ensures step { step_of self.new ≡ step_of self.old }
+        ensures failing { failing_writes self.new ≡ failing_writes self.old }
     {
         self.faults = self.faults.saturating_add(1);
         SinkFault::Failed
@@ -74,16 +71,35 @@ impl SinkMem {
 }
 
 impl Sink for SinkMem {
-    ghost taken = { λ s. Some s.bytes.items };
+    ghost use Rattle.wf_io.specs.InMemory.{bytes_of, room_of, faults_of, failing_writes, taken_of, FailsNext, CountsWrite};
 
-    ghost count = { λ s. s.faults };
+    ghost taken = { λ s. Some (bytes_of s) };
 
-    fn write(&mut self, piece: &[u8]) -> Result<usize, SinkFault> {
+    ghost count = { faults_of };
+
+    fn write(&mut self, piece: &[u8]) -> Result<usize, SinkFault>
+        ensures took { IfOk result (λ n. bytes_of self.new ≡ bytes_of self.old ++ take n piece.now) }
+        ensures some { 0 < length piece.now → IfOk result (λ n. 0 < n) }
+        ensures within { IfOk result (λ n. n ≤ length piece.now) }
+        ensures nothing { length piece.now ≡ 0 → result ≡ Ok 0 }
+        ensures rose { OnErr result (Rose (faults_of self.old) (faults_of self.new)) }
+        ensures err { OnErr result (bytes_of self.new ≡ bytes_of self.old) }
+        ensures grows { faults_of self.old ≤ faults_of self.new }
+
+        // It takes all that its step and its room allow.
+        ensures exact { IfOk result (λ n. n ≡ taken_of self.old (length piece.now)) }
+
+        // The writes that fail are those that are told to, and those that find no room.
+        ensures only { OnErr result (FailsNext (failing_writes self.old) ⊎ (length (bytes_of self.old) ≡ room_of self.old)) }
+        ensures always { FailsNext (failing_writes self.old) → 0 < length piece.now → IsErr result }
+        ensures counted { 0 < length piece.now → CountsWrite self.old self.new }
+        ensures uncounted { length piece.now ≡ 0 → self.new ≡ self.old }
+    {
         if piece.is_empty() {
             return Ok(0);
         }
         let taken = piece.len().min(self.step).min(self.room - self.bytes.len());
-        if self.begin_write() {
+        if self.failing.fails_next() {
             return Err(self.fail());
         }
         if taken == 0 {
