@@ -5,7 +5,7 @@ ghost use Rattle.wf_io.specs.declared.tree.Call.{Call};
 ghost use Rattle.wf_io.specs.Tree.{listing, content, KeepsLastFailed};
 ghost use Rattle.wf_io.specs.Faults.{Rose};
 
-use std::alloc::Global;
+use std::alloc::{AllocError, Global};
 use wf_base::{Items, Text};
 
 /// A file of a tree that tells its files: its path, with `/` between the parts, and its bytes.
@@ -38,6 +38,16 @@ pub enum TreeFault {
     /// There is more than was asked for.
     More,
     NoMemory,
+}
+
+impl From<AllocError> for TreeFault {
+    ghost use Rattle.wf_io.specs.declared.tree.TreeFault.{TreeFault};
+
+    ghost from_gives = { λ _ fault. fault ≡ TreeFault.NoMemory };
+
+    fn from(_: AllocError) -> TreeFault {
+        TreeFault::NoMemory
+    }
 }
 
 /// A tree of files. It may tell its files, as a list of which the first of two with one path counts; a
