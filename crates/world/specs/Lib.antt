@@ -1,4 +1,5 @@
 pub mod Command
+pub mod Faults
 pub mod Walk
 pub mod Load
 pub mod Outcome

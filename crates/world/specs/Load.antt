@@ -1,5 +1,5 @@
 -- What is read of a tree: the classes of the noted files, and the root.
-use Rattle.std.specs.Prelude.{◌≡◌, ℕ, ◌+◌, Bool, true, false, not, ◌&&◌, List, [], ◌∷◌, ◌++◌, Option, Some, None, nat_lt, nat_eq, length, take, ◌-◌, codes, option_and_then, count_by, sum_by, if◌then◌else◌}
+use Rattle.std.specs.Prelude.{◌≡◌, ℕ, ◌+◌, Bool, true, false, not, ◌&&◌, List, [], ◌∷◌, ◌++◌, Option, Some, None, nat_lt, nat_eq, length, take, ◌-◌, codes, option_and_then, option_map, count_by, sum_by, if◌then◌else◌}
 use Rattle.std.specs.List.{ends_with, list_any}
 use Rattle.std.specs.Str.{bytes_eq}
 use Rattle.wf_base.specs.declared.class_info.ClassInfo.{ClassInfo}
@@ -14,7 +14,7 @@ use Rattle.wf_io.specs.Tree.{content}
 use Rattle.wf_sys.specs.Names.{method_name}
 use Rattle.world.specs.declared.limits.TheConstants.{MAX_FILE_BYTES, MAX_BYTES, MAX_TYPES, MAX_METHODS}
 use Rattle.world.specs.declared.load.ReadSoFar.{ReadSoFar}
-use Rattle.world.specs.Walk.{each, path_in, walk_from}
+use Rattle.world.specs.Walk.{each, path_in}
 
 -- the path at which a class has to stand
 abbrev pub class_path : List ℕ → List ℕ → List ℕ
@@ -36,7 +36,7 @@ read_file files dir path so_far = option_and_then (λ bytes. take_file dir path 
 
 -- the classes of these files, in their order
 abbrev pub classes_of : List MemFile → List ℕ → List (List ℕ) → Option (List ClassInfo)
-classes_of files dir paths = option_and_then (λ (r : ReadSoFar). Some r.classes) (each (read_file files dir) paths (record { bytes = 0; classes = [] }))
+classes_of files dir paths = option_map (λ (r : ReadSoFar). r.classes) (each (read_file files dir) paths (record { bytes = 0; classes = [] }))
 
 -- whether java/lang/Object is among the classes
 abbrev pub has_object : List ClassInfo → Bool

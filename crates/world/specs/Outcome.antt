@@ -5,9 +5,8 @@ use Rattle.wf_base.specs.declared.member.MemberName.{MemberName}
 use Rattle.wf_io.specs.declared.tree.MemFile.{MemFile}
 use Rattle.wf_io.specs.Tree.{content}
 use Rattle.world.specs.declared.limits.TheConstants.{MAX_FILE_BYTES}
-use Rattle.world.specs.declared.walk.Walked.{Walked}
 use Rattle.world.specs.Command.{IsCommand}
-use Rattle.world.specs.Walk.{walk_from}
+use Rattle.world.specs.Walk.{noted_from}
 use Rattle.world.specs.Load.{classes_of, has_object, only_line, root_in, is_within_limits}
 
 -- What is due: the refusal of input that isn't built yet; a read of a roots file that isn't there, which
@@ -33,13 +32,13 @@ abbrev pub with_classes : List MemFile → List ℕ → Option (List ClassInfo) 
 with_classes files roots None = NotBuilt
 with_classes files roots (Some classes) = if has_object classes then with_roots classes (content files roots) else NotBuilt
 
-abbrev pub with_walked : List MemFile → List ℕ → List ℕ → Option Walked → Answer
+abbrev pub with_walked : List MemFile → List ℕ → List ℕ → Option (List (List ℕ)) → Answer
 with_walked files roots dir None = NotBuilt
-with_walked files roots dir (Some walked) = with_classes files roots (classes_of files dir walked.noted)
+with_walked files roots dir (Some paths) = with_classes files roots (classes_of files dir paths)
 
 -- The order: the walk; the noted files; java/lang/Object; the roots file; the limits of the program.
 abbrev pub answer_of : List MemFile → List ℕ → List ℕ → Answer
-answer_of files roots dir = with_walked files roots dir (walk_from files dir)
+answer_of files roots dir = with_walked files roots dir (noted_from files dir)
 
 -- Words that are no command aren't built yet, and a command has the answer of its files.
 pub data Outcome (files : List MemFile) (words : List (List ℕ)) : Answer → Type 0 where

@@ -1,5 +1,5 @@
 -- The walk of a directory: which class files it notes, in which order.
-use Rattle.std.specs.Prelude.{ℕ, zero, suc, ◌+◌, Bool, true, false, not, ◌&&◌, List, [], ◌∷◌, ◌++◌, Option, Some, None, nat_lt, nat_eq, length, codes, option_and_then, if◌then◌else◌}
+use Rattle.std.specs.Prelude.{ℕ, zero, suc, ◌+◌, Bool, true, false, not, ◌&&◌, List, [], ◌∷◌, ◌++◌, Option, Some, None, nat_lt, nat_eq, length, codes, option_and_then, option_map, if◌then◌else◌}
 use Rattle.std.specs.List.{ends_with}
 use Rattle.std.specs.Str.{bytes_eq}
 use Rattle.wf_io.specs.declared.tree.MemFile.{MemFile}
@@ -48,6 +48,6 @@ walk files (suc depth) top dir w =
 abbrev pub at_start : Walked
 at_start = record { entries = 0; noted = [] }
 
--- the walk of the named directory
-abbrev pub walk_from : List MemFile → List ℕ → Option Walked
-walk_from files dir = walk files (MAX_DEPTH + 1) true dir at_start
+-- the class files that the walk of the named directory notes, in their order
+abbrev pub noted_from : List MemFile → List ℕ → Option (List (List ℕ))
+noted_from files dir = option_map (λ (w : Walked). w.noted) (walk files (MAX_DEPTH + 1) true dir at_start)

@@ -1,6 +1,7 @@
 //! `world` reads directories of class files and prints which types, methods and fields an image needs.
 #![tactic(auto)]
 
+mod fault;
 mod limits;
 mod load;
 mod walk;
