@@ -1,8 +1,9 @@
 -- Faults of the tree, and what a part of the run gives beside them.
-use Rattle.std.specs.Prelude.{◌≡◌, ◌<◌, ◌≤◌, ℕ, List, length, Option, Some, None, Result, Ok, Err}
+use Rattle.std.specs.Prelude.{◌≡◌, ◌<◌, ◌≤◌, ℕ, List, length, IsSomeAnd, Option, Some, None, Result, Ok, Err}
 use Rattle.wf_io.specs.declared.tree.Call.{Call}
 use Rattle.wf_io.specs.declared.tree.Call.TheVariants as call
 use Rattle.wf_io.specs.Faults.{Rose}
+use Rattle.world.specs.declared.limits.TheConstants.{MAX_FILE_BYTES}
 use Rattle.world.specs.declared.fault.RunFault.{RunFault}
 use Rattle.world.specs.declared.fault.RunFault.TheVariants.{Unbuilt, ReadFault, WriteFault, NoMemory}
 
@@ -42,6 +43,14 @@ Reads due (Err Unbuilt) = due ≡ None
 Reads due (Err (ReadFault path)) = Unit {0}
 Reads due (Err WriteFault) = Unit {0}
 Reads due (Err NoMemory) = Unit {0}
+
+-- A file's bytes, within the limit; or the refusal of more. Of a file that isn't there nothing is read.
+abbrev pub ReadsFile : Option (List ℕ) → Result (List ℕ) RunFault → Type 0
+ReadsFile file (Ok bytes) = file ≡ Some bytes
+ReadsFile file (Err Unbuilt) = IsSomeAnd file (λ bytes. MAX_FILE_BYTES < length bytes)
+ReadsFile file (Err (ReadFault path)) = Unit {0}
+ReadsFile file (Err WriteFault) = Unit {0}
+ReadsFile file (Err NoMemory) = Unit {0}
 
 -- a fault of the call at this path, or no memory for the path
 abbrev pub NamesFault : List ℕ → RunFault → Type 0

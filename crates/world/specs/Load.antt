@@ -1,5 +1,5 @@
 -- What is read of a tree: the classes of the noted files, and the root.
-use Rattle.std.specs.Prelude.{◌≡◌, ℕ, ◌+◌, Bool, true, false, not, ◌&&◌, List, [], ◌∷◌, ◌++◌, Option, Some, None, nat_lt, nat_eq, length, take, ◌-◌, codes, option_and_then, option_map, count_by, sum_by, if◌then◌else◌}
+use Rattle.std.specs.Prelude.{◌≡◌, ℕ, ◌+◌, Bool, true, false, not, ◌&&◌, List, [], ◌∷◌, ◌++◌, Option, Some, None, nat_lt, nat_eq, length, take, ◌-◌, codes, option_and_then, option_map, count_by, if◌then◌else◌}
 use Rattle.std.specs.List.{ends_with, list_any}
 use Rattle.std.specs.Str.{bytes_eq}
 use Rattle.wf_base.specs.declared.class_info.ClassInfo.{ClassInfo}
@@ -74,8 +74,10 @@ root_in (class ∷ classes) line = first_of (root_among class class.methods line
 abbrev pub is_concrete : ClassInfo → Bool
 is_concrete class = not (has_flag class.flags 0x0400)
 
+-- how many methods the classes have together
 abbrev pub methods_in : List ClassInfo → ℕ
-methods_in classes = sum_by (λ (class : ClassInfo). length class.methods) classes
+methods_in [] = 0
+methods_in (class ∷ classes) = length class.methods + methods_in classes
 
 -- No limit of a program is passed. In this form the fields are none, and the nodes and value words are far
 -- fewer than their limits where the files and methods are within theirs.

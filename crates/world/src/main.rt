@@ -4,6 +4,7 @@
 mod fault;
 mod limits;
 mod load;
+mod program;
 mod walk;
 
 fn main(_rt: HostRuntime) {}
