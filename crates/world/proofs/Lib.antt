@@ -1,3 +1,5 @@
 mod EachLaws
 mod FaultLaws
+mod LeastWorld
+mod ListLaws
 mod WalkLaws

@@ -1,5 +1,6 @@
 pub mod Command
 pub mod Faults
+pub mod Form
 pub mod Walk
 pub mod Load
 pub mod Outcome
