@@ -8,6 +8,7 @@ ghost use Rattle.wf_io.specs.Tree.{listing, content, KeepsLastFailed};
 
 use crate::entries::entries_below;
 use crate::failing::Failing;
+use crate::failures::Failures;
 use crate::tree::{Call, Entry, MemFile, Tree, TreeFault};
 use std::alloc::Global;
 use wf_base::{Items, Text};
@@ -18,8 +19,7 @@ use wf_base::{Items, Text};
 pub struct TreeMem {
     files: Items<MemFile>,
     failing: Failing,
-    last_failed: Option<Call>,
-    faults: u64,
+    failures: Failures,
 }
 
 impl TreeMem {
@@ -33,23 +33,8 @@ impl TreeMem {
         TreeMem {
             files,
             failing: Failing::new(failing),
-            last_failed: None,
-            faults: 0,
+            failures: Failures::none(),
         }
-    }
-
-    /// Counts a fault, of this call.
-    fn fail(&mut self, call: Call) -> TreeFault
-        ensures fault { result ≡ TreeFault.Failed }
-        ensures last_failed { last_failed_of self.new ≡ Some call }
-        ensures rose { Rose (failures_of self.old) (failures_of self.new) }
-        ensures grows { failures_of self.old ≤ failures_of self.new }
-        ensures files { files_of self.new ≡ files_of self.old }
-        ensures failing { failing_calls self.new ≡ failing_calls self.old }
-    {
-        self.faults = self.faults.saturating_add(1);
-        self.last_failed = Some(call);
-        TreeFault::Failed
     }
 }
 
@@ -77,7 +62,7 @@ impl Tree for TreeMem {
     {
         if self.failing.fails_next() {
             let dir = Text::from_slice(alloc, dir.as_slice())?;
-            return Err(self.fail(Call::List(dir)));
+            return Err(self.failures.add(Call::List(dir)));
         }
         listed(alloc, self.files.as_slice(), dir.as_slice(), most)
     }
@@ -105,11 +90,11 @@ impl Tree for TreeMem {
             }
         }
         let path = Text::from_slice(alloc, path.as_slice())?;
-        Err(self.fail(Call::Read(path)))
+        Err(self.failures.add(Call::Read(path)))
     }
 
     fn faults(&self) -> u64 {
-        self.faults
+        self.failures.count
     }
 }
 
