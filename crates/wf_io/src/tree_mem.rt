@@ -57,7 +57,8 @@ impl Tree for TreeMem {
 
         // The calls that fail are those that are told to.
         ensures only { IsErrOf result TreeFault.Failed → FailsNext (failing_calls self.old) }
-        ensures always { FailsNext (failing_calls self.old) → IsErrOf result TreeFault.Failed ⊎ IsErrOf result TreeFault.NoMemory }
+        ensures always { FailsNext (failing_calls self.old) →
+            IsErrOf result TreeFault.Failed ⊎ IsErrOf result TreeFault.NoMemory }
         ensures counted { failing_calls self.new ≡ after_one (failing_calls self.old) }
     {
         if self.failing.fails_next() {
@@ -81,7 +82,8 @@ impl Tree for TreeMem {
         // The calls that fail are those that are told to, and those of a path that isn't there.
         ensures only { IsErrOf result TreeFault.Failed →
             FailsNext (failing_calls self.old) ⊎ (content (files_of self.old) path.now ≡ None) }
-        ensures always { FailsNext (failing_calls self.old) → IsErrOf result TreeFault.Failed ⊎ IsErrOf result TreeFault.NoMemory }
+        ensures always { FailsNext (failing_calls self.old) →
+            IsErrOf result TreeFault.Failed ⊎ IsErrOf result TreeFault.NoMemory }
         ensures counted { failing_calls self.new ≡ after_one (failing_calls self.old) }
     {
         if !self.failing.fails_next() {
