@@ -24,11 +24,11 @@ files_of t = t.files
 
 -- the call that failed last
 abbrev pub last_failed_of : TreeMem → Option Call
-last_failed_of t = t.last_failed
+last_failed_of t = t.failures.last
 
 -- how many calls have failed
 abbrev pub failures_of : TreeMem → ℕ
-failures_of t = t.faults
+failures_of t = t.failures.count
 
 -- which calls fail
 abbrev pub failing_calls : TreeMem → Failing

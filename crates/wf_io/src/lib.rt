@@ -4,8 +4,11 @@
 
 mod entries;
 mod failing;
+mod failures;
 mod sink;
 mod sink_mem;
+mod std_sink;
+mod std_tree;
 #[cfg(test)]
 mod tests;
 mod tree;
@@ -14,5 +17,7 @@ mod tree_mem;
 pub use entries::sorted;
 pub use sink::{Sink, SinkFault};
 pub use sink_mem::SinkMem;
+pub use std_sink::StdSink;
+pub use std_tree::StdTree;
 pub use tree::{Call, Entry, MemFile, Tree, TreeFault};
 pub use tree_mem::TreeMem;

@@ -90,7 +90,8 @@ impl Sink for SinkMem {
         ensures exact { IfOk result (λ n. n ≡ taken_of self.old (length piece.now)) }
 
         // The writes that fail are those that are told to, and those that find no room.
-        ensures only { OnErr result (FailsNext (failing_writes self.old) ⊎ (length (bytes_of self.old) ≡ room_of self.old)) }
+        ensures only { OnErr result
+            (FailsNext (failing_writes self.old) ⊎ (length (bytes_of self.old) ≡ room_of self.old)) }
         ensures always { FailsNext (failing_writes self.old) → 0 < length piece.now → IsErr result }
         ensures counted { 0 < length piece.now → CountsWrite self.old self.new }
         ensures uncounted { length piece.now ≡ 0 → self.new ≡ self.old }

@@ -1,5 +1,10 @@
-use crate::{Entry, MemFile, Sink, SinkFault, SinkMem, Tree, TreeFault, TreeMem, sorted};
+use crate::{
+    Entry, MemFile, Sink, SinkFault, SinkMem, StdSink, StdTree, Tree, TreeFault, TreeMem, sorted,
+};
 use std::alloc::{AllocError, Global};
+use std::fs;
+use std::io::{self, ErrorKind, Write};
+use std::os::unix::fs::symlink;
 use std::test::Fail;
 use wf_base::{Items, Text};
 
@@ -172,5 +177,97 @@ fn sink_in_memory_takes(rt: HostRuntime) -> Result<(), Fail> {
     }
     assert_eq!(rt; sink.bytes(), b"abcde".as_slice());
     assert_eq!(rt; sink.faults(), 2);
+    Ok(())
+}
+
+#[test]
+fn real_tree_lists_and_reads(rt: HostRuntime) -> Result<(), Fail> {
+    let alloc = rt.alloc();
+    let _ = fs::remove_dir_all(&rt, "real");
+    fs::create_dir_all(&rt, "real/a/deep")?;
+    fs::write(&rt, "real/b.class", "four")?;
+    symlink(&rt, "b.class", "real/link")?;
+    symlink(&rt, "a", "real/way")?;
+
+    let mut tree = StdTree::new(&rt);
+    let dir = text(alloc, "real")?;
+    let entries = sorted(tree.list(alloc, &dir, 4)?)?;
+    assert_eq!(rt;
+        names(alloc, &entries)?.as_slice(),
+        b"a/ b.class link way/ ".as_slice()
+    );
+    assert_eq!(rt; tree.list(alloc, &dir, 3).err(), Some(TreeFault::More));
+    for path in ["real/b.class", "real/link"] {
+        let path = text(alloc, path)?;
+        assert_eq!(rt; tree.read(alloc, &path, 4)?.as_slice(), b"four".as_slice());
+        assert_eq!(rt; tree.read(alloc, &path, 3).err(), Some(TreeFault::More));
+    }
+    assert_eq!(rt; tree.faults(), 0);
+
+    symlink(&rt, "nothing", "real/a/stray")?;
+    for path in ["real/none", "real/a", "real/a/stray", "\0"] {
+        let path = text(alloc, path)?;
+        assert_eq!(rt; tree.read(alloc, &path, 9).err(), Some(TreeFault::Failed));
+    }
+    for dir in ["real/none", "real/b.class", "real/a"] {
+        let dir = text(alloc, dir)?;
+        assert_eq!(rt; tree.list(alloc, &dir, 9).err(), Some(TreeFault::Failed));
+    }
+    let path = Text::from_slice(alloc, b"real/\xff")?;
+    assert_eq!(rt; tree.read(alloc, &path, 9).err(), Some(TreeFault::Failed));
+    assert_eq!(rt; tree.faults(), 8);
+    fs::remove_dir_all(&rt, "real")?;
+    Ok(())
+}
+
+/// A writer that is broken off before every write, takes one byte of each piece, and no more than three.
+#[derive(Drop)]
+struct Slow {
+    is_next: bool,
+    left: usize,
+}
+
+impl Write for Slow {
+    fn write(&mut self, piece: &[u8]) -> io::Result<usize> {
+        self.is_next = !self.is_next;
+        if self.is_next {
+            return Err(io::Error::from(ErrorKind::Interrupted));
+        }
+        let taken = piece.len().min(self.left).min(1);
+        self.left -= taken;
+        Ok(taken)
+    }
+
+    fn flush(&mut self) -> io::Result<()> {
+        Ok(())
+    }
+}
+
+#[test]
+fn real_sink_takes(rt: HostRuntime) -> Result<(), Fail> {
+    let alloc = rt.alloc();
+    let mut sink = StdSink::new(fs::create(&rt, "taken")?);
+    assert_eq!(rt; sink.write(b""), Ok(0));
+    assert_eq!(rt; sink.write(b"some"), Ok(4));
+    assert_eq!(rt; sink.write(b" more"), Ok(5));
+    assert_eq!(rt; sink.faults(), 0);
+    assert_eq!(rt; fs::read(&rt, "taken")?.as_slice(), b"some more".as_slice());
+    fs::remove_file(&rt, "taken")?;
+
+    let mut full = StdSink::new(Slow {
+        is_next: false,
+        left: 3,
+    });
+    for want in [
+        Ok(1),
+        Ok(1),
+        Ok(1),
+        Err(SinkFault::Failed),
+        Err(SinkFault::Failed),
+    ] {
+        assert_eq!(rt; full.write(b"some"), want);
+    }
+    assert_eq!(rt; full.write(b""), Ok(0));
+    assert_eq!(rt; full.faults(), 2);
     Ok(())
 }

@@ -8,6 +8,7 @@ ghost use Rattle.wf_io.specs.Tree.{listing, content, KeepsLastFailed};
 
 use crate::entries::entries_below;
 use crate::failing::Failing;
+use crate::failures::Failures;
 use crate::tree::{Call, Entry, MemFile, Tree, TreeFault};
 use std::alloc::Global;
 use wf_base::{Items, Text};
@@ -18,8 +19,7 @@ use wf_base::{Items, Text};
 pub struct TreeMem {
     files: Items<MemFile>,
     failing: Failing,
-    last_failed: Option<Call>,
-    faults: u64,
+    failures: Failures,
 }
 
 impl TreeMem {
@@ -33,23 +33,8 @@ impl TreeMem {
         TreeMem {
             files,
             failing: Failing::new(failing),
-            last_failed: None,
-            faults: 0,
+            failures: Failures::none(),
         }
-    }
-
-    /// Counts a fault, of this call.
-    fn fail(&mut self, call: Call) -> TreeFault
-        ensures fault { result ≡ TreeFault.Failed }
-        ensures last_failed { last_failed_of self.new ≡ Some call }
-        ensures rose { Rose (failures_of self.old) (failures_of self.new) }
-        ensures grows { failures_of self.old ≤ failures_of self.new }
-        ensures files { files_of self.new ≡ files_of self.old }
-        ensures failing { failing_calls self.new ≡ failing_calls self.old }
-    {
-        self.faults = self.faults.saturating_add(1);
-        self.last_failed = Some(call);
-        TreeFault::Failed
     }
 }
 
@@ -72,12 +57,13 @@ impl Tree for TreeMem {
 
         // The calls that fail are those that are told to.
         ensures only { IsErrOf result TreeFault.Failed → FailsNext (failing_calls self.old) }
-        ensures always { FailsNext (failing_calls self.old) → IsErrOf result TreeFault.Failed ⊎ IsErrOf result TreeFault.NoMemory }
+        ensures always { FailsNext (failing_calls self.old) →
+            IsErrOf result TreeFault.Failed ⊎ IsErrOf result TreeFault.NoMemory }
         ensures counted { failing_calls self.new ≡ after_one (failing_calls self.old) }
     {
         if self.failing.fails_next() {
             let dir = Text::from_slice(alloc, dir.as_slice())?;
-            return Err(self.fail(Call::List(dir)));
+            return Err(self.failures.add(Call::List(dir)));
         }
         listed(alloc, self.files.as_slice(), dir.as_slice(), most)
     }
@@ -96,7 +82,8 @@ impl Tree for TreeMem {
         // The calls that fail are those that are told to, and those of a path that isn't there.
         ensures only { IsErrOf result TreeFault.Failed →
             FailsNext (failing_calls self.old) ⊎ (content (files_of self.old) path.now ≡ None) }
-        ensures always { FailsNext (failing_calls self.old) → IsErrOf result TreeFault.Failed ⊎ IsErrOf result TreeFault.NoMemory }
+        ensures always { FailsNext (failing_calls self.old) →
+            IsErrOf result TreeFault.Failed ⊎ IsErrOf result TreeFault.NoMemory }
         ensures counted { failing_calls self.new ≡ after_one (failing_calls self.old) }
     {
         if !self.failing.fails_next() {
@@ -105,11 +92,11 @@ impl Tree for TreeMem {
             }
         }
         let path = Text::from_slice(alloc, path.as_slice())?;
-        Err(self.fail(Call::Read(path)))
+        Err(self.failures.add(Call::Read(path)))
     }
 
     fn faults(&self) -> u64 {
-        self.faults
+        self.failures.count
     }
 }
 

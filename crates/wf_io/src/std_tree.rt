@@ -1,0 +1,116 @@
+ghost use Rattle.std.specs.Prelude.{◌≡◌, ◌≤◌, None, length, IfOk};
+ghost use Rattle.wf_io.specs.declared.tree.MemFile.{MemFile};
+ghost use Rattle.wf_io.specs.declared.tree.Call.{Call};
+ghost use Rattle.wf_io.specs.RealFiles.{last_failed_of, failures_of};
+
+use crate::failures::Failures;
+use crate::tree::{Call, Entry, Tree, TreeFault};
+use std::alloc::{AllocError, Global};
+use std::io::{self, ErrorKind, Read};
+use std::rt::Files;
+use std::{fs, str};
+use wf_base::{Items, Text};
+
+/// The tree of real files. It follows links. A path or a name that isn't UTF-8 is a fault, and so is a
+/// link that leads nowhere. Where the system finds no memory, it answers `NoMemory`.
+#[derive(Drop)]
+pub struct StdTree<'a, R> {
+    rt: &'a R,
+    failures: Failures,
+}
+
+impl<'a, R: Files> StdTree<'a, R> {
+    pub fn new(rt: &'a R) -> StdTree<'a, R>
+        ensures last_failed { last_failed_of result ≡ None }
+        ensures faults { failures_of result ≡ 0 }
+    {
+        StdTree {
+            rt,
+            failures: Failures::none(),
+        }
+    }
+}
+
+impl<'a, R: Files + AllocGlobal + Clone + Drop> Tree for StdTree<'a, R> {
+    ghost told = { λ _. None };
+
+    ghost last_failed = { last_failed_of };
+
+    ghost count = { failures_of };
+
+    fn list(&mut self, alloc: Global, dir: &Text, most: u32) -> Result<Items<Entry>, TreeFault> {
+        match entries_in(self.rt, alloc, dir.as_slice(), most) {
+            Err(TreeFault::Failed) => {
+                let dir = Text::from_slice(alloc, dir.as_slice())?;
+                Err(self.failures.add(Call::List(dir)))
+            }
+            answer => answer,
+        }
+    }
+
+    fn read(&mut self, alloc: Global, path: &Text, most: u32) -> Result<Text, TreeFault> {
+        match bytes_at(self.rt, alloc, path.as_slice(), most) {
+            Err(TreeFault::Failed) => {
+                let path = Text::from_slice(alloc, path.as_slice())?;
+                Err(self.failures.add(Call::Read(path)))
+            }
+            answer => answer,
+        }
+    }
+
+    fn faults(&self) -> u64 {
+        self.failures.count
+    }
+}
+
+/// The entries of a directory, at most `most`.
+fn entries_in<R: Files + AllocGlobal + Clone + Drop>(
+    rt: &R,
+    alloc: Global,
+    dir: &[u8],
+    most: u32,
+) -> Result<Items<Entry>, TreeFault>
+    ensures { IfOk result (λ entries. length entries ≤ most) }
+{
+    let mut entries = Vec::new(alloc);
+    for found in fs::read_dir(rt, path_of(dir)?)? {
+        if entries.len() >= most as usize {
+            return Err(TreeFault::More);
+        }
+        let found = found?;
+        let name = Text::from_slice(alloc, found.file_name().as_bytes())?;
+        let is_dir = fs::metadata(rt, found.path())?.is_dir();
+        entries
+            .push(Entry { name, is_dir })
+            .map_err(AllocError::from)?;
+    }
+    Ok(Items::from_vec(entries))
+}
+
+/// The bytes of a file, at most `most`. Of a longer file it reads one byte more.
+fn bytes_at<R: Files>(rt: &R, alloc: Global, path: &[u8], most: u32) -> Result<Text, TreeFault>
+    ensures { IfOk result (λ text. length text ≤ most) }
+{
+    let file = fs::open(rt, path_of(path)?)?;
+    let mut bytes = Vec::new(alloc);
+    file.take(u64::from(most) + 1).read_to_end(&mut bytes)?;
+    if bytes.len() > most as usize {
+        return Err(TreeFault::More);
+    }
+    Ok(Text::from_slice(alloc, bytes.as_slice())?)
+}
+
+/// The path as text, which is what the system is asked for.
+fn path_of(path: &[u8]) -> Result<&str, TreeFault> {
+    str::from_utf8(path).map_err(|_| TreeFault::Failed)
+}
+
+impl From<io::Error> for TreeFault {
+    fn from(error: io::Error) -> TreeFault {
+        if error.kind() == ErrorKind::OutOfMemory {
+            TreeFault::NoMemory
+        } else {
+            TreeFault::Failed
+        }
+    }
+}
