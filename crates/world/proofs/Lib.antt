@@ -2,4 +2,6 @@ mod EachLaws
 mod FaultLaws
 mod LeastWorld
 mod ListLaws
+mod OutputLaws
 mod WalkLaws
+mod WordLaws

@@ -3,4 +3,5 @@ pub mod Faults
 pub mod Form
 pub mod Walk
 pub mod Load
+pub mod Output
 pub mod Outcome
