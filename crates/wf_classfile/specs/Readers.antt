@@ -1,6 +1,5 @@
 -- What the readers of class files give, against the functions that read lists.
 use Rattle.std.specs.Prelude.{◌≡◌, Option, Some, None, Result, Ok, Err}
-use Rattle.wf_base.specs.Place.{Place}
 use Rattle.wf_base.specs.Reading.{Refusal}
 use Rattle.wf_classfile.specs.declared.fault.ClassFault.{ClassFault}
 use Rattle.wf_classfile.specs.declared.fault.ClassFault.TheVariants.{Unbuilt, NoMemory}
@@ -18,6 +17,11 @@ GivesAs view new (Err e) read = Fails e read
 
 abbrev pub Gives : {X S : Type 0} → S → Result X ClassFault → Result (X × S) Refusal → Type 0
 Gives new result read = GivesAs (λ x. x) new result read
+
+-- The same of a value with no place behind it.
+abbrev pub GivesValue : {X : Type 0} → Result X ClassFault → Result X Refusal → Type 0
+GivesValue (Ok x) read = read ≡ Ok x
+GivesValue (Err e) read = Fails e read
 
 -- The same of a whole file, of which only whether it is of the form counts.
 abbrev pub GivesClass : {X : Type 0} → Result X ClassFault → Option X → Type 0

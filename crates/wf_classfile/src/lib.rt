@@ -2,5 +2,13 @@
 #![tactic(auto)]
 
 mod fault;
+mod flags;
+mod form;
+mod keys;
+mod names;
+mod pool;
+mod read;
+mod reader;
 
 pub use fault::ClassFault;
+pub use read::{read_class, the_form_is_read};
