@@ -1,10 +1,13 @@
 -- The outcome of the whole call, over the words and the files that the tree tells.
-use Rattle.std.specs.Prelude.{◌≡◌, ℕ, Bool, true, false, not, List, [], Option, Some, None, nat_lt, length, if◌then◌else◌}
+use Rattle.std.specs.Prelude.{◌≡◌, ℕ, Bool, true, false, not, List, [], Option, Some, None, Result, Ok, Err, nat_lt, length, if◌then◌else◌}
 use Rattle.wf_base.specs.declared.class_info.ClassInfo.{ClassInfo}
 use Rattle.wf_base.specs.declared.member.MemberName.{MemberName}
 use Rattle.wf_io.specs.declared.tree.MemFile.{MemFile}
 use Rattle.wf_io.specs.Tree.{content}
 use Rattle.world.specs.declared.limits.TheConstants.{MAX_FILE_BYTES}
+use Rattle.world.specs.declared.fault.RunFault.{RunFault}
+use Rattle.world.specs.declared.fault.RunFault.TheVariants.{Unbuilt, ReadFault, WriteFault, NoMemory}
+use Rattle.world.specs.declared.program.Program.{Program}
 use Rattle.world.specs.Command.{IsCommand}
 use Rattle.world.specs.Walk.{noted_from}
 use Rattle.world.specs.Load.{classes_of, has_object, only_line, root_in, is_within_limits}
@@ -44,3 +47,11 @@ answer_of files roots dir = with_walked files roots dir (noted_from files dir)
 pub data Outcome (files : List MemFile) (words : List (List ℕ)) : Answer → Type 0 where
   no_command : ((roots dir : List ℕ) → IsCommand words roots dir → ⊥) → Outcome files words NotBuilt
   command : (roots dir : List ℕ) → IsCommand words roots dir → Outcome files words (answer_of files roots dir)
+
+-- the program that is due, or the refusal of what isn't built
+abbrev pub Loads : Answer → Result Program RunFault → Type 0
+Loads due (Ok program) = due ≡ Analysed program.classes program.root
+Loads due (Err Unbuilt) = due ≡ NotBuilt
+Loads due (Err (ReadFault path)) = Unit {0}
+Loads due (Err WriteFault) = Unit {0}
+Loads due (Err NoMemory) = Unit {0}

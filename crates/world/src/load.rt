@@ -2,11 +2,14 @@ ghost use Rattle.std.specs.Prelude.{◌≡◌, ◌+◌, ◌≤◌, List, Some, l
 ghost use Rattle.wf_io.specs.declared.tree.MemFile.{MemFile};
 ghost use Rattle.wf_io.specs.Tree.{content};
 ghost use Rattle.world.specs.Faults.{IsOfTree, IsOwn, Gives, Reads, ReadsFile};
-ghost use Rattle.world.specs.Load.{class_path, add_class, take_file, read_file, classes_of, has_object};
+ghost use Rattle.world.specs.Load.{class_path, add_class, take_file, read_file, classes_of, only_line, root_in};
+ghost use Rattle.world.specs.Outcome.{NotBuilt, Analysed, with_root, with_roots, answer_of, Loads};
 
+use crate::command::Command;
 use crate::fault::RunFault;
 use crate::limits::{MAX_BYTES, MAX_FILE_BYTES};
-use crate::walk::{path_in, read_fault};
+use crate::program::{Program, has_object, is_within_limits, only_line, root_in};
+use crate::walk::{path_in, read_fault, walk_from};
 use std::alloc::{AllocError, Global};
 use wf_base::{ClassInfo, Items, Text};
 use wf_classfile::{ClassFault, read_class};
@@ -138,4 +141,55 @@ pub fn read_classes<T: Tree>(
         read_file(alloc, tree, dir, path, &mut so_far)?;
     }
     Ok(so_far.classes)
+}
+
+/// Makes a program of the classes and the root that the bytes of a roots file name.
+fn rooted(alloc: Global, classes: Items<ClassInfo>, roots: &Text) -> Result<Program, RunFault>
+    ensures program { Loads (with_root classes (root_in classes (only_line roots.now))) result }
+    ensures fault { IfErr result IsOwn }
+{
+    let root = root_in(alloc, classes.as_slice(), only_line(roots.as_slice()))?;
+    match root {
+        Some(root) if is_within_limits(classes.as_slice()) => Ok(Program { classes, root }),
+        _ => Err(RunFault::Unbuilt),
+    }
+}
+
+/// Reads the roots file, and makes the program.
+fn read_roots<T: Tree>(
+    alloc: Global,
+    tree: &mut T,
+    roots: &Text,
+    classes: Items<ClassInfo>,
+) -> Result<Program, RunFault>
+    ensures program { (files : List MemFile) → T.told tree.old ≡ Some files →
+        Loads (with_roots classes (content files roots.now)) result }
+    ensures same { T.told tree.new ≡ T.told tree.old }
+    ensures grows { T.count tree.old ≤ T.count tree.new }
+    ensures fault { IfErr result (IsOfTree (T.count tree.old) (T.count tree.new) (T.last_failed tree.new)) }
+{
+    let bytes = read_bytes(alloc, tree, roots)?;
+    rooted(alloc, classes, &bytes)
+}
+
+/// Reads the program that the command names: the walk of its directory, the noted files, and the roots
+/// file, in this order. Not built where any of them is of another form or passes a limit, or where no class
+/// is `java/lang/Object`.
+pub fn load<T: Tree>(
+    alloc: Global,
+    tree: &mut T,
+    command: &Command,
+) -> Result<Program, RunFault>
+    ensures program { (files : List MemFile) → T.told tree.old ≡ Some files →
+        Loads (answer_of files command.now.roots command.now.dir) result }
+    ensures same { T.told tree.new ≡ T.told tree.old }
+    ensures grows { T.count tree.old ≤ T.count tree.new }
+    ensures fault { IfErr result (IsOfTree (T.count tree.old) (T.count tree.new) (T.last_failed tree.new)) }
+{
+    let paths = walk_from(alloc, tree, &command.dir)?;
+    let classes = read_classes(alloc, tree, &command.dir, &paths)?;
+    if !has_object(classes.as_slice()) {
+        return Err(RunFault::Unbuilt);
+    }
+    read_roots(alloc, tree, &command.roots, classes)
 }
