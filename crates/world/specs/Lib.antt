@@ -1,6 +1,7 @@
 pub mod Command
 pub mod Faults
 pub mod Form
+pub mod Run
 pub mod Walk
 pub mod Load
 pub mod Output

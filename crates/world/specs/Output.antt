@@ -4,6 +4,8 @@ use Rattle.wf_base.specs.NameForm.{escaped}
 use Rattle.wf_base.specs.Report.{line}
 use Rattle.wf_io.specs.declared.tree.Call.{Call}
 use Rattle.wf_io.specs.Faults.{Rose}
+use Rattle.world.specs.declared.fault.RunFault.{RunFault}
+use Rattle.world.specs.declared.fault.RunFault.TheVariants.{Unbuilt, ReadFault, WriteFault, NoMemory}
 use Rattle.world.specs.Faults.{IsLastFailed}
 
 -- a sink that had some bytes has a beginning of these behind them, and not all
@@ -29,3 +31,17 @@ pub record TellsFault (last : Option Call) (status : ℕ) (had : List ℕ) (take
   pub text : List ℕ
   pub is : FaultLine last status text
   pub got : Got had text taken old new
+
+-- a read fault names the last failed call's path
+abbrev pub IsKnown : Option Call → RunFault → Type 0
+IsKnown last Unbuilt = Unit {0}
+IsKnown last (ReadFault path) = IsLastFailed path last
+IsKnown last WriteFault = Unit {0}
+IsKnown last NoMemory = Unit {0}
+
+-- the status of a fault, or that of want of memory
+abbrev pub IsStatusOf : RunFault → ℕ → Type 0
+IsStatusOf Unbuilt status = status ≡ 10
+IsStatusOf (ReadFault path) status = (status ≡ 6) ⊎ (status ≡ 9)
+IsStatusOf WriteFault status = status ≡ 7
+IsStatusOf NoMemory status = status ≡ 9

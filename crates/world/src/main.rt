@@ -8,6 +8,7 @@ mod load;
 mod output;
 mod program;
 mod report;
+mod run;
 mod walk;
 
 fn main(_rt: HostRuntime) {}

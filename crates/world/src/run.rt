@@ -1,0 +1,171 @@
+ghost use Rattle.std.specs.Prelude.{◌≡◌, ◌≢◌, ◌⊎◌, ◌≤◌, ◌++◌, ◌∷◌, [], List, ℕ, Option, Some, codes, IfOk, IfErr, IsErrOf};
+ghost use Rattle.wf_base.specs.declared.class_info.ClassInfo.{ClassInfo};
+ghost use Rattle.wf_base.specs.declared.member.MemberName.{MemberName};
+ghost use Rattle.wf_io.specs.declared.tree.MemFile.{MemFile};
+ghost use Rattle.wf_base.specs.NameForm.{escaped};
+ghost use Rattle.wf_base.specs.Report.{line};
+ghost use Rattle.wf_io.specs.declared.tree.Call.{Call};
+ghost use Rattle.wf_io.specs.Faults.{Rose};
+ghost use Rattle.wf_sys.specs.WorldOf.{IsLeastWorld};
+ghost use Rattle.world.specs.Command.{words_of};
+ghost use Rattle.world.specs.Faults.{IsOfTree};
+ghost use Rattle.world.specs.Form.{IsOfForm};
+ghost use Rattle.world.specs.Outcome.{Answer, NotBuilt, Analysed, Outcome};
+ghost use Rattle.world.specs.Output.{IsCut, TellsFault, IsKnown, IsStatusOf};
+ghost use Rattle.world.specs.Run.{IsReport, Prints, PrintsPart, IsStatus};
+
+use crate::command::command_of;
+use crate::fault::RunFault;
+use crate::load::load;
+use crate::output::{tell, write_all};
+use crate::program::Program;
+use crate::report::report;
+use std::alloc::{AllocError, Global};
+use std::thread::Threads;
+use wf_base::{Items, MemberName, Text, World, name_text};
+use wf_io::{Sink, Tree};
+
+/// A list of one member.
+fn only(alloc: Global, member: MemberName) -> Result<Items<MemberName>, AllocError>
+    ensures { IfOk result (λ members. members ≡ member ∷ []) }
+{
+    let mut members = Items::new(alloc);
+    match members.push(member) {
+        Ok(()) => Ok(members),
+        Err(_) => Err(AllocError),
+    }
+}
+
+/// The world of the least solution for a program of the first form: nothing is called in it and nothing
+/// made, so the root alone is entered.
+fn least_world(alloc: Global, program: Program) -> Result<World, AllocError>
+    ensures { IfOk result (λ world. IsOfForm program.classes program.root → IsLeastWorld program.classes program.root world) }
+{
+    let methods = only(alloc, program.root)?;
+    Ok(World {
+        types: Items::new(alloc),
+        methods,
+        fields: Items::new(alloc),
+        unresolved: Items::new(alloc),
+    })
+}
+
+/// The report that the words ask for.
+fn analyse<T: Tree>(alloc: Global, words: &[Vec<u8>], tree: &mut T) -> Result<Text, RunFault>
+    ensures report { (files : List MemFile) → T.told tree.old ≡ Some files →
+        IfOk result (IsReport files (words_of words.now)) }
+    ensures unbuilt { (files : List MemFile) → T.told tree.old ≡ Some files →
+        IsErrOf result RunFault.Unbuilt → Outcome files (words_of words.now) NotBuilt }
+    ensures same { T.told tree.new ≡ T.told tree.old }
+    ensures grows { T.count tree.old ≤ T.count tree.new }
+    ensures fault { IfErr result (IsOfTree (T.count tree.old) (T.count tree.new) (T.last_failed tree.new)) }
+{
+    let command = command_of(alloc, words)?;
+    let program = load(alloc, tree, &command)?;
+    let world = least_world(alloc, program)?;
+    Ok(report(alloc, &world)?)
+}
+
+/// The line of a read fault: the path stands in it in the form of names.
+fn read_fault_line(alloc: Global, path: &Text) -> Result<Text, AllocError>
+    ensures { IfOk result (λ text. text ≡ line (codes "read fault: " ++ escaped path.now)) }
+{
+    let mut text = Text::from_slice(alloc, b"read fault: ")?;
+    text.push_slice(name_text(alloc, path.as_slice())?.as_slice())?;
+    text.push_slice(b"\n")?;
+    Ok(text)
+}
+
+/// Writes the line of a fault that is no write fault to the error sink, and answers its status.
+fn tell_fault<E: Sink>(alloc: Global, fault: RunFault, err: &mut E) -> u8
+    ensures told { (had : List ℕ) (last : Option Call) → E.taken err.old ≡ Some had → IsKnown last fault →
+        TellsFault last result had (E.taken err.new) (E.count err.old) (E.count err.new) }
+    ensures status { IsStatusOf fault result }
+{
+    match fault {
+        RunFault::Unbuilt => {
+            tell(err, b"not built yet\n");
+            10
+        }
+        RunFault::ReadFault { path } => match read_fault_line(alloc, &path) {
+            Ok(text) => {
+                tell(err, text.as_slice());
+                6
+            }
+            Err(_) => {
+                tell(err, b"no memory\n");
+                9
+            }
+        },
+        RunFault::WriteFault => {
+            tell(err, b"write fault\n");
+            7
+        }
+        RunFault::NoMemory => {
+            tell(err, b"no memory\n");
+            9
+        }
+    }
+}
+
+/// Writes the report, and answers the status.
+fn print<O: Sink, E: Sink>(alloc: Global, text: &Text, out: &mut O, err: &mut E) -> u8
+    ensures statuses { (result ≡ 0) ⊎ (result ≡ 7) }
+    ensures printed { (had : List ℕ) → O.taken out.old ≡ Some had → result ≡ 0 → O.taken out.new ≡ Some (had ++ text.now) }
+    ensures err_kept { result ≡ 0 → E.taken err.new ≡ E.taken err.old }
+    ensures rose { result ≡ 7 → Rose (O.count out.old) (O.count out.new) }
+    ensures cut { (had : List ℕ) → O.taken out.old ≡ Some had → result ≡ 7 → IsCut had text.now (O.taken out.new) }
+    ensures tells { (had : List ℕ) (last : Option Call) → E.taken err.old ≡ Some had → result ≡ 7 →
+        TellsFault last result had (E.taken err.new) (E.count err.old) (E.count err.new) }
+{
+    match write_all(out, text.as_slice()) {
+        Ok(()) => 0,
+        Err(_) => tell_fault(alloc, RunFault::WriteFault, err),
+    }
+}
+
+/// Does what the words ask, with nothing but the tree and the sinks: `--roots FILE DIR` reads the class
+/// files below DIR and the root in FILE, and writes to `out` the report of the world of the least solution.
+/// Answers the status: 0 for a report; 6 for a read fault, 7 for a write fault, 9 for want of memory, and 10
+/// for words or input that aren't built yet, each with its line on `err`. The clauses speak of a tree and
+/// of sinks that tell their bytes. The runtime isn't used yet. Own rule.
+pub fn world_run<R: Threads + Sync, T: Tree, O: Sink, E: Sink>(
+    _rt: &R,
+    alloc: Global,
+    words: &[Vec<u8>],
+    tree: &mut T,
+    out: &mut O,
+    err: &mut E,
+) -> u8
+    ensures statuses { IsStatus result }
+
+    // A report is that of the world of the least solution.
+    ensures printed { (files : List MemFile) (had : List ℕ) → T.told tree.old ≡ Some files → O.taken out.old ≡ Some had →
+        result ≡ 0 → Prints files (words_of words.now) had (O.taken out.new) }
+
+    // Every other status has its cause.
+    ensures unbuilt { (files : List MemFile) → T.told tree.old ≡ Some files →
+        result ≡ 10 → Outcome files (words_of words.now) NotBuilt }
+    ensures read_fault { result ≡ 6 → Rose (T.count tree.old) (T.count tree.new) }
+    ensures write_fault { result ≡ 7 → Rose (O.count out.old) (O.count out.new) }
+    ensures cut { (files : List MemFile) (had : List ℕ) → T.told tree.old ≡ Some files → O.taken out.old ≡ Some had →
+        result ≡ 7 → PrintsPart files (words_of words.now) had (O.taken out.new) }
+
+    // Where a report is due and nothing that was handed in failed, it is printed, unless memory runs out.
+    ensures complete { (files : List MemFile) (classes : List ClassInfo) (root : MemberName) → T.told tree.old ≡ Some files →
+        Outcome files (words_of words.now) (Analysed classes root) →
+        (Rose (T.count tree.old) (T.count tree.new) → ⊥) → (Rose (O.count out.old) (O.count out.new) → ⊥) →
+        (result ≡ 0) ⊎ (result ≡ 9) }
+
+    // What a run leaves.
+    ensures out_kept { result ≢ 0 → result ≢ 7 → O.taken out.new ≡ O.taken out.old }
+    ensures err_kept { result ≡ 0 → E.taken err.new ≡ E.taken err.old }
+    ensures tells { (had : List ℕ) → E.taken err.old ≡ Some had → result ≢ 0 →
+        TellsFault (T.last_failed tree.new) result had (E.taken err.new) (E.count err.old) (E.count err.new) }
+    ensures tree_kept { T.told tree.new ≡ T.told tree.old }
+{
+    match analyse(alloc, words, tree) {
+        Ok(text) => print(alloc, &text, out, err),
+        Err(fault) => tell_fault(alloc, fault, err),
+    }
+}
