@@ -12,3 +12,6 @@ mod reader;
 
 pub use fault::ClassFault;
 pub use read::{read_class, the_form_is_read};
+
+#[cfg(test)]
+mod tests;

@@ -1,9 +1,9 @@
 //! The class itself (JVMS 4.1).
 
 ghost use Rattle.std.specs.Prelude.{◌≡◌, ◌==◌, not, ◌&&◌, ◌||◌, length, nat_le, ◌<◌, ◌^◌, ◌∷◌, true, false, IfOk, OnOk, Err};
+ghost use Rattle.std.specs.List.{list_all};
 ghost use Rattle.std.specs.Str.{bytes_eq};
 ghost use Rattle.wf_base.specs.declared.class_info.PoolEntry.TheVariants.{Unusable};
-ghost use Rattle.std.specs.List.{list_all};
 ghost use Rattle.wf_base.specs.ClassFile.{is_interface, is_sound};
 ghost use Rattle.wf_base.specs.Names.{object_name};
 ghost use Rattle.wf_base.specs.Reading.{many, super_class, class_named, class_behind, class_file, class_of};
@@ -81,6 +81,7 @@ impl<'a> Reader<'a> {
         let count = self.u2()?;
         let mut met = Keys::new(self.alloc);
         let methods = self.methods(&pool, &mut met, count)?;
+        // The keys borrow from the pool, which moves into the class.
         drop(met);
         self.no_items::<()>()?;
         Ok(ClassInfo {

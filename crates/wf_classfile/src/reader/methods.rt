@@ -173,6 +173,7 @@ fn is_method_descriptor(desc: &[u8]) -> bool
     desc == b"()V".as_slice()
 }
 
+/// The codes among the attributes.
 fn codes_of(alloc: Global, attributes: Vec<Option<CodeInfo>>) -> Result<Vec<CodeInfo>, AllocError>
     ensures { IfOk result (λ codes. codes.items ≡ filter_map (λ a. a) attributes.items) }
 {
