@@ -24,3 +24,6 @@ pub use member::MemberName;
 pub use name_form::{is_member_text, member_text, name_text};
 pub use text::Text;
 pub use world::{LinkError, Unresolved, World};
+
+#[cfg(test)]
+mod tests;

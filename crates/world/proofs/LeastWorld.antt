@@ -179,11 +179,11 @@ initializes classes root class super form there is e =
     elim (or_cases (bytes_eq class.name root.class) (list_any (has_super root.class class.name) classes) e) [
       | inl own ↦ any_at (has_super root.class super) classes class there (and_true (bytes_eq class.name root.class) (super_is super class.superclass) own (super_known class super is))
       | inr other ↦
-        let d = any_where (has_super root.class class.name) classes other in
-        let test = and_both (bytes_eq d.0.name root.class) (super_is class.name d.0.superclass) d.2 in
-        let object : class.name ≡ object_name = super_is_object d.0 class.name (form.form d.0 d.1) (super_found d.0.superclass class.name test.1) in
-        let same : class.name ≡ super = object ∙ sym (super_is_object class super (form.form class there) is) in
-        subst (λ (s : List ℕ). list_any (has_super root.class s) classes ≡ true) same other
+          let d = any_where (has_super root.class class.name) classes other in
+          let test = and_both (bytes_eq d.0.name root.class) (super_is class.name d.0.superclass) d.2 in
+          let object : class.name ≡ object_name = super_is_object d.0 class.name (form.form d.0 d.1) (super_found d.0.superclass class.name test.1) in
+          let same : class.name ≡ super = object ∙ sym (super_is_object class super (form.form class there) is) in
+          subst (λ (s : List ℕ). list_any (has_super root.class s) classes ≡ true) same other
     ])
 
 -- what enables a place of a method enables its return
@@ -221,11 +221,11 @@ module _ (classes : List ClassInfo) (root : MemberName) (form : IsOfForm classes
       elim (or_cases (bytes_eq class root.class) (list_any (has_super root.class class) classes) e) [
         | inl own ↦ subst (λ (c : List ℕ). IsNonEmpty (y (Initialized c))) (sym (same_bytes class root.class own)) own_initialized
         | inr other ↦
-          let d = any_where (has_super root.class class) classes other in
-          let test = and_both (bytes_eq d.0.name root.class) (super_is class d.0.superclass) d.2 in
-          let row = initializes_superclass d.0 class d.1 (form_of_class d.0 (form.form d.0 d.1)).0 (super_found d.0.superclass class test.1) in
-          let guard : IsNonEmpty (y (Initialized d.0.name)) = subst (λ (c : List ℕ). IsNonEmpty (y (Initialized c))) (sym (same_bytes d.0.name root.class test.0)) own_initialized in
-          from_below (y (Initialized class)) (solved.meets (token_where (Initialized d.0.name) (Initialized class)) row guard)
+            let d = any_where (has_super root.class class) classes other in
+            let test = and_both (bytes_eq d.0.name root.class) (super_is class d.0.superclass) d.2 in
+            let row = initializes_superclass d.0 class d.1 (form_of_class d.0 (form.form d.0 d.1)).0 (super_found d.0.superclass class test.1) in
+            let guard : IsNonEmpty (y (Initialized d.0.name)) = subst (λ (c : List ℕ). IsNonEmpty (y (Initialized c))) (sym (same_bytes d.0.name root.class test.0)) own_initialized in
+            from_below (y (Initialized class)) (solved.meets (token_where (Initialized d.0.name) (Initialized class)) row guard)
       ]
 
   root_returned : IsNonEmpty (y (Returned root))

@@ -101,7 +101,7 @@ classes_form : (files : List MemFile) (dir : List ℕ) (paths : List (List ℕ))
 classes_form files dir paths classes e =
     let last = map_some (λ (r : ReadSoFar). r.classes) (each (read_file files dir) paths (record { bytes = 0; classes = [] })) classes e in
     let all = each_keeps (λ (r : ReadSoFar). AllOfForm r.classes) (read_file files dir) (λ path s t step h. file_form files dir path s t step h) paths (record { bytes = 0; classes = [] }) last.0 last.1
-        (record { each_class = λ c h. absurd (contains_nothing c h) }) in
+    (record { each_class = λ c h. absurd (contains_nothing c h) }) in
     subst AllOfForm last.2 all
 
 -- ---- the root
@@ -153,6 +153,7 @@ analysed_form files roots dir classes root e = walked (noted_from files dir) e
     rooted found line (Some m) is all e =
         let same = within_form found m classes root e in
         subst (λ (c : List ClassInfo). IsOfForm c root) same.0 (subst (λ (r : MemberName). IsOfForm found r) same.1 (record { form = all.each_class; declared = root_declared found line m is }))
+
     read : (found : List ClassInfo) (o : Option (List ℕ)) → AllOfForm found → with_roots found o ≡ Analysed classes root → IsOfForm classes root
     read found None all e = absurd cc
     read found (Some bytes) all e = tested (ltb MAX_FILE_BYTES (length bytes)) e
@@ -160,6 +161,7 @@ analysed_form files roots dir classes root e = walked (noted_from files dir) e
         tested : (b : Bool) → cond b NotBuilt (with_root found (root_in found (only_line bytes))) ≡ Analysed classes root → IsOfForm classes root
         tested true e = absurd cc
         tested false e = rooted found (only_line bytes) (root_in found (only_line bytes)) refl all e
+
     classed : (o : Option (List ClassInfo)) (paths : List (List ℕ)) → classes_of files dir paths ≡ o → with_classes files roots o ≡ Analysed classes root → IsOfForm classes root
     classed None paths is e = absurd cc
     classed (Some found) paths is e = tested (has_object found) e
@@ -167,6 +169,7 @@ analysed_form files roots dir classes root e = walked (noted_from files dir) e
         tested : (b : Bool) → cond b (with_roots found (content files roots)) NotBuilt ≡ Analysed classes root → IsOfForm classes root
         tested true e = read found (content files roots) (classes_form files dir paths found is) e
         tested false e = absurd cc
+
     walked : (o : Option (List (List ℕ))) → with_walked files roots dir o ≡ Analysed classes root → IsOfForm classes root
     walked None e = absurd cc
     walked (Some paths) e = classed (classes_of files dir paths) paths refl e

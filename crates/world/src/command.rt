@@ -37,8 +37,7 @@ fn paths_of(words: &[Vec<u8>]) -> Option<(&[u8], &[u8])>
 {
     match words {
         [first, roots, dir]
-            if first.as_slice() == b"--roots".as_slice() && is_path(roots) && is_path(dir) =>
-        {
+            if first.as_slice() == b"--roots".as_slice() && is_path(roots) && is_path(dir) => {
             Some((roots.as_slice(), dir.as_slice()))
         }
         _ => None,

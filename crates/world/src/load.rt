@@ -175,11 +175,7 @@ fn read_roots<T: Tree>(
 /// Reads the program that the command names: the walk of its directory, the noted files, and the roots
 /// file, in this order. Not built where any of them is of another form or passes a limit, or where no class
 /// is `java/lang/Object`.
-pub fn load<T: Tree>(
-    alloc: Global,
-    tree: &mut T,
-    command: &Command,
-) -> Result<Program, RunFault>
+pub fn load<T: Tree>(alloc: Global, tree: &mut T, command: &Command) -> Result<Program, RunFault>
     ensures program { (files : List MemFile) → T.told tree.old ≡ Some files →
         Loads (answer_of files command.now.roots command.now.dir) result }
     ensures same { T.told tree.new ≡ T.told tree.old }

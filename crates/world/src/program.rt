@@ -21,9 +21,7 @@ pub struct Program {
 pub fn has_object(classes: &[ClassInfo]) -> bool
     ensures { result ≡ has_object classes.now }
 {
-    classes
-        .iter()
-        .any(|class| class.name.as_slice() == b"java/lang/Object".as_slice())
+    classes.iter().any(|class| class.name.as_slice() == b"java/lang/Object".as_slice())
 }
 
 /// The one line of a text, without its end.

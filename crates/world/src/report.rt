@@ -96,7 +96,11 @@ fn push_places(alloc: Global, out: &mut Text, places: &[Unresolved]) -> Result<(
 }
 
 /// The part of the report whose lines are places that fail to link.
-fn push_place_section(alloc: Global, out: &mut Text, places: &[Unresolved]) -> Result<(), AllocError>
+fn push_place_section(
+    alloc: Global,
+    out: &mut Text,
+    places: &[Unresolved],
+) -> Result<(), AllocError>
     ensures { OnOk result (out.new ≡ out.old ++ section (codes "unresolved") unresolved_text places.now) }
 {
     push_title(alloc, out, b"unresolved", places.len())?;

@@ -148,11 +148,7 @@ fn walk<T: Tree>(
 /// level by the bytes of the names, of two with one name the file first. A directory `META-INF` directly
 /// below the named one and files `module-info.class` are passed over. Not built where more than
 /// `MAX_ENTRIES` entries, `MAX_FILES` files or `MAX_DEPTH` levels are met. Own rule.
-pub fn walk_from<T: Tree>(
-    alloc: Global,
-    tree: &mut T,
-    dir: &Text,
-) -> Result<Items<Text>, RunFault>
+pub fn walk_from<T: Tree>(alloc: Global, tree: &mut T, dir: &Text) -> Result<Items<Text>, RunFault>
     ensures noted { (files : List MemFile) → T.told tree.old ≡ Some files →
         Reads (noted_from files dir.now) result }
     ensures same { T.told tree.new ≡ T.told tree.old }

@@ -7,4 +7,4 @@ use Rattle.world.proofs.run.world_run.Goals as goal
 pub returns-in-Err-clause-complete : goal.returns-in-Err-clause-complete
 returns-in-Err-clause-complete g c = λ files classes root told due tree out.
     ends_well _ _ _ c.in-Err.fault c.tell_fault.result c.in-Err.ensures.fault c.tell_fault.ensures.status
-        (λ e. not_both files (words_of c.args.words.now) classes root due (c.in-Err.ensures.unbuilt files told (ap (λ (f : RunFault). Err f) e))) tree
+    (λ e. not_both files (words_of c.args.words.now) classes root due (c.in-Err.ensures.unbuilt files told (ap (λ (f : RunFault). Err f) e))) tree

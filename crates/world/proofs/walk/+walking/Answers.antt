@@ -16,7 +16,7 @@ pub walk-returns-in_err-entries-clause-walked : goal.walk-returns-in_err-entries
 walk-returns-in_err-entries-clause-walked g t c = λ files told.
     let p = err_from_is_err_and c.from_residual.result c.from_residual.ensures.1 in
     rw (p.1, p.2) (listed_err _ (listing files c.args.dir.now) c.in_err-entries.field-0.0 c.args.walked.now (walk files c.args.depth c.args.top c.args.dir.now c.args.walked.now) (c.in_err-entries.ensures.listed files told)
-        (λ many. too_many files c.args.depth c.args.top c.args.dir.now c.args.walked.now (omega arith) c.requires many))
+    (λ many. too_many files c.args.depth c.args.top c.args.dir.now c.args.walked.now (omega arith) c.requires many))
 
 pub walk-loop-entry-init : goal.walk-loop-entry-init
 walk-loop-entry-init g t c = record {
