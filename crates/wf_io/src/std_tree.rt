@@ -1,7 +1,5 @@
 ghost use Rattle.std.specs.Prelude.{◌≡◌, ◌≤◌, None, length, IfOk};
 ghost use Rattle.std.specs.IoError.{error_kind};
-ghost use Rattle.wf_io.specs.declared.tree.MemFile.{MemFile};
-ghost use Rattle.wf_io.specs.declared.tree.Call.{Call};
 ghost use Rattle.wf_io.specs.RealFiles.{last_failed_of, failures_of};
 
 use crate::failures::Failures;
