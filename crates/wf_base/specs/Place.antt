@@ -26,3 +26,8 @@ ReadsNumber w old new (Some n) = (byte_len w ≤ length old.left) × (new ≡ af
 abbrev pub TakesBytes : ℕ → Place → Place → Option (List ℕ) → Type 0
 TakesBytes n old new None = (length old.left < n) × (new ≡ old)
 TakesBytes n old new (Some bytes) = (n ≤ length old.left) × (new ≡ after old n) × (bytes ≡ take n old.left)
+
+-- the same for a place that has these bytes alone
+abbrev pub PartsAt : ℕ → Place → Place → Option Place → Type 0
+PartsAt n old new None = (length old.left < n) × (new ≡ old)
+PartsAt n old new (Some part) = (n ≤ length old.left) × (new ≡ after old n) × (part ≡ spot old.at (take n old.left))

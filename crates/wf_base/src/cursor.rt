@@ -1,7 +1,7 @@
 ghost use Rattle.std.specs.Prelude.{◌≡◌, ◌+◌, ◌<◌, ◌^◌, ◌==◌, length};
 ghost use Rattle.std.specs.Int.{w8, w16, w32};
 ghost use Rattle.std.specs.Option.{option_copied};
-ghost use Rattle.wf_base.specs.Place.{spot, ReadsNumber, TakesBytes};
+ghost use Rattle.wf_base.specs.Place.{spot, ReadsNumber, TakesBytes, PartsAt};
 
 use byteorder::{BigEndian, ByteOrder};
 use std::marker::Model;
@@ -85,6 +85,15 @@ impl<'a> Cursor<'a> {
         self.at += n as u32;
         self.left = back;
         Some(front)
+    }
+
+    /// A cursor over the next n bytes alone, at their true place. This one goes on behind them.
+    pub fn part(&mut self, n: u32) -> Option<Cursor<'a>>
+        ensures { PartsAt n self.old self.new result }
+    {
+        let at = self.at;
+        let left = self.take(n)?;
+        Some(Cursor { at, left })
     }
 
     /// How many bytes were passed.

@@ -96,7 +96,7 @@ fn bytes_at<R: Files>(rt: &R, alloc: Global, path: &[u8], most: u32) -> Result<T
     if bytes.len() > most as usize {
         return Err(TreeFault::More);
     }
-    Ok(Text::from_slice(alloc, bytes.as_slice())?)
+    Ok(Text::from_vec(bytes))
 }
 
 /// The path as text, which is what the system is asked for.

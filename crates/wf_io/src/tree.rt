@@ -1,5 +1,4 @@
-ghost use Rattle.std.specs.Prelude.{◌≡◌, ◌<◌, ◌≤◌, ℕ, List, Option, Some, length, IfOk, IsErrOf, IsPermutation};
-ghost use Rattle.std.specs.Option.{ForSome};
+ghost use Rattle.std.specs.Prelude.{◌≡◌, ◌<◌, ◌≤◌, ℕ, List, Option, Some, length, IfOk, IsErrOf, IsPermutation, IsSomeAnd};
 ghost use Rattle.wf_io.specs.declared.tree.MemFile.{MemFile};
 ghost use Rattle.wf_io.specs.declared.tree.Call.{Call};
 ghost use Rattle.wf_io.specs.Tree.{listing, content, KeepsLastFailed};
@@ -82,7 +81,7 @@ pub trait Tree {
             IfOk result (λ bytes. content files path.now ≡ Some bytes) }
         ensures within { IfOk result (λ bytes. length bytes ≤ most) }
         ensures more { (files : List MemFile) → told self.old ≡ Some files → IsErrOf result TreeFault.More →
-            ForSome (content files path.now) (λ bytes. most < length bytes) }
+            IsSomeAnd (content files path.now) (λ bytes. most < length bytes) }
         ensures rose { IsErrOf result TreeFault.Failed → Rose (count self.old) (count self.new) }
         ensures failed { IsErrOf result TreeFault.Failed → last_failed self.new ≡ Some (Call.Read path.now) }
         ensures kept { KeepsLastFailed result (last_failed self.old) (last_failed self.new) }

@@ -1,5 +1,5 @@
-ghost use Rattle.std.specs.Prelude.{◌≡◌, ◌≢◌, ◌≤◌, ◌<◌, ◌⊎◌, None, Some, length, IfOk, IsErrOf};
-ghost use Rattle.std.specs.Option.{option_copied, ForSome};
+ghost use Rattle.std.specs.Prelude.{◌≡◌, ◌≢◌, ◌≤◌, ◌<◌, ◌⊎◌, None, Some, length, IfOk, IsErrOf, IsSomeAnd};
+ghost use Rattle.std.specs.Option.{option_copied};
 ghost use Rattle.wf_io.specs.declared.tree.Call.{Call};
 ghost use Rattle.wf_io.specs.Faults.{Rose};
 ghost use Rattle.wf_io.specs.InMemory.{files_of, last_failed_of, failures_of, failing_calls, numbers_from, after_one, FailsNext};
@@ -71,7 +71,7 @@ impl Tree for TreeMem {
         ensures bytes { IfOk result (λ bytes. content (files_of self.old) path.now ≡ Some bytes) }
         ensures within { IfOk result (λ bytes. length bytes ≤ most) }
         ensures more { IsErrOf result TreeFault.More →
-            ForSome (content (files_of self.old) path.now) (λ bytes. most < length bytes) }
+            IsSomeAnd (content (files_of self.old) path.now) (λ bytes. most < length bytes) }
         ensures rose { IsErrOf result TreeFault.Failed → Rose (failures_of self.old) (failures_of self.new) }
         ensures failed { IsErrOf result TreeFault.Failed → last_failed_of self.new ≡ Some (Call.Read path.now) }
         ensures kept { KeepsLastFailed result (last_failed_of self.old) (last_failed_of self.new) }

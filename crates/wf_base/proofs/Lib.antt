@@ -1,0 +1,3 @@
+mod Exact
+mod ClassLaws
+mod Strip

@@ -1,0 +1,7 @@
+use Rattle.std.proofs.Common.{◌≡◌, ◌-◌}
+use Rattle.wf_base.specs.Reading.{many_on, method}
+use Rattle.wf_classfile.proofs.Many.{with_front_on}
+use Rattle.wf_classfile.proofs.reader.Reader.methods.Given as goal
+
+abbrev pub invariant-loop : goal.invariant-loop
+invariant-loop l = with_front_on l.methods.items (many_on (method l.pool) (l.count - l.counter) l.met l.self.cursor) ≡ many_on (method l.pool) l.count l.fn.met l.fn.self.cursor

@@ -1,0 +1,69 @@
+//! What the places of a constant pool hold (JVMS 4.4).
+
+ghost use Rattle.std.specs.Prelude.{◌≡◌, is_some, ◌&&◌};
+ghost use Rattle.std.specs.List.{list_all};
+ghost use Rattle.std.specs.Option.{option_copied};
+ghost use Rattle.wf_base.specs.ClassFile.{text_at, class_at, has_name_type, is_sound};
+
+use wf_base::PoolEntry;
+
+/// The text at a place.
+pub fn text_at(pool: &[PoolEntry], place: u16) -> Option<&[u8]>
+    ensures { option_copied result ≡ text_at pool.now place }
+{
+    match pool.get(place as usize)? {
+        PoolEntry::Utf8(text) => Some(text.as_slice()),
+        _ => None,
+    }
+}
+
+/// The name of the class at a place.
+pub fn class_at(pool: &[PoolEntry], place: u16) -> Option<&[u8]>
+    ensures { option_copied result ≡ class_at pool.now place }
+{
+    match pool.get(place as usize)? {
+        PoolEntry::Class(name) => text_at(pool, *name),
+        _ => None,
+    }
+}
+
+fn has_text(pool: &[PoolEntry], place: u16) -> bool
+    ensures { result ≡ is_some (text_at pool.now place) }
+{
+    text_at(pool, place).is_some()
+}
+
+fn has_name_type(pool: &[PoolEntry], place: u16) -> bool
+    ensures { result ≡ has_name_type pool.now place }
+{
+    match pool.get(place as usize) {
+        Some(PoolEntry::NameType(_, _)) => true,
+        _ => false,
+    }
+}
+
+fn has_member(pool: &[PoolEntry], class: u16, member: u16) -> bool
+    ensures { result ≡ (is_some (class_at pool.now class) && has_name_type pool.now member) }
+{
+    class_at(pool, class).is_some() && has_name_type(pool, member)
+}
+
+/// Whether a constant's own places are of the sorts that it needs.
+fn is_sound(pool: &[PoolEntry], entry: &PoolEntry) -> bool
+    ensures { result ≡ is_sound pool.now entry.now }
+{
+    match entry {
+        PoolEntry::Class(text) | PoolEntry::Str(text) => has_text(pool, *text),
+        PoolEntry::Field(class, member)
+        | PoolEntry::Method(class, member)
+        | PoolEntry::InterfaceMethod(class, member) => has_member(pool, *class, *member),
+        PoolEntry::NameType(name, desc) => has_text(pool, *name) && has_text(pool, *desc),
+        _ => true,
+    }
+}
+
+pub fn are_sound(pool: &[PoolEntry]) -> bool
+    ensures { result ≡ list_all (is_sound pool.now) pool.now }
+{
+    pool.iter().all(|entry| is_sound(pool, entry))
+}

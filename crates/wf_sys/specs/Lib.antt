@@ -1,0 +1,6 @@
+pub mod Values
+pub mod System
+pub mod Names
+pub mod Nodes
+pub mod Program
+pub mod WorldOf

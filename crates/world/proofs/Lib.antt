@@ -1,0 +1,7 @@
+mod EachLaws
+mod FaultLaws
+mod LeastWorld
+mod ListLaws
+mod OutputLaws
+mod WalkLaws
+mod WordLaws

@@ -1,0 +1,16 @@
+use Rattle.std.proofs.Common.{◌≡◌, ◌≤◌, List, Some, [], drop}
+use Rattle.wf_io.specs.declared.tree.MemFile.{MemFile}
+use Rattle.world.specs.declared.limits.TheConstants.{MAX_BYTES}
+use Rattle.world.specs.Walk.{each}
+use Rattle.world.specs.Load.{read_file}
+use Rattle.world.proofs.load.read_classes.Given as goal
+
+-- reading the files that are left is reading all
+abbrev pub invariant-loop-path : goal.invariant-loop-path
+invariant-loop-path g l = record {
+  so_far : (files : List MemFile) → g.T.Tree.told l.fn.tree ≡ Some files
+      → each (read_file files l.dir) (drop l.path-index l.path-items) l.so_far ≡ each (read_file files l.dir) l.paths (record { bytes = 0; classes = [] });
+  same : g.T.Tree.told l.tree ≡ g.T.Tree.told l.fn.tree;
+  grows : g.T.Tree.count l.fn.tree ≤ g.T.Tree.count l.tree;
+  small : l.so_far.bytes ≤ MAX_BYTES;
+}

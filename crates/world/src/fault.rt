@@ -1,0 +1,38 @@
+ghost use Rattle.std.specs.Prelude.{◌≡◌};
+ghost use Rattle.world.specs.declared.fault.RunFault.TheVariants.{NoMemory};
+
+use std::alloc::{AllocError, AllocFailed};
+use thiserror::Error;
+use wf_base::Text;
+
+/// Why a run prints no world.
+#[derive(Debug, Drop, Error)]
+pub enum RunFault {
+    /// The words or the input are of a form that isn't built yet.
+    #[error("not built yet")]
+    Unbuilt,
+    /// The tree counted a fault at this path.
+    #[error("read fault")]
+    ReadFault { path: Text },
+    /// The output sink counted a fault.
+    #[error("write fault")]
+    WriteFault,
+    #[error("no memory")]
+    NoMemory,
+}
+
+impl From<AllocError> for RunFault {
+    ghost from_gives = { λ _ e. e ≡ NoMemory };
+
+    fn from(_: AllocError) -> RunFault {
+        RunFault::NoMemory
+    }
+}
+
+impl<T: Drop> From<AllocFailed<T>> for RunFault {
+    ghost from_gives = { λ _ e. e ≡ NoMemory };
+
+    fn from(_: AllocFailed<T>) -> RunFault {
+        RunFault::NoMemory
+    }
+}

@@ -1,0 +1,195 @@
+ghost use Rattle.std.specs.Prelude.{◌≡◌, ◌+◌, ◌≤◌, List, Some, length, IfOk, IfErr};
+ghost use Rattle.wf_io.specs.declared.tree.MemFile.{MemFile};
+ghost use Rattle.wf_io.specs.Tree.{content};
+ghost use Rattle.world.specs.Faults.{IsOfTree, IsOwn, Gives, Reads, ReadsFile};
+ghost use Rattle.world.specs.Load.{class_path, add_class, take_file, read_file, classes_of, only_line, root_in};
+ghost use Rattle.world.specs.Outcome.{NotBuilt, Analysed, with_root, with_roots, answer_of, Loads};
+
+use crate::command::Command;
+use crate::fault::RunFault;
+use crate::limits::{MAX_BYTES, MAX_FILE_BYTES};
+use crate::program::{Program, has_object, is_within_limits, only_line, root_in};
+use crate::walk::{path_in, read_fault, walk_from};
+use std::alloc::{AllocError, Global};
+use wf_base::{ClassInfo, Items, Text};
+use wf_classfile::{ClassFault, read_class};
+use wf_io::{Tree, TreeFault};
+
+/// The class files read so far.
+#[derive(Debug, Drop)]
+pub struct ReadSoFar {
+    /// The sum of their lengths.
+    pub bytes: u32,
+    pub classes: Items<ClassInfo>,
+}
+
+/// The bytes of a file; not built where it is longer than `MAX_FILE_BYTES`.
+pub fn read_bytes<T: Tree>(alloc: Global, tree: &mut T, path: &Text) -> Result<Text, RunFault>
+    ensures bytes { (files : List MemFile) → T.told tree.old ≡ Some files → ReadsFile (content files path.now) result }
+    ensures within { IfOk result (λ bytes. length bytes ≤ MAX_FILE_BYTES) }
+    ensures same { T.told tree.new ≡ T.told tree.old }
+    ensures grows { T.count tree.old ≤ T.count tree.new }
+    ensures fault { IfErr result (IsOfTree (T.count tree.old) (T.count tree.new) (T.last_failed tree.new)) }
+{
+    match tree.read(alloc, path, MAX_FILE_BYTES) {
+        Ok(bytes) => Ok(bytes),
+        Err(TreeFault::More) => Err(RunFault::Unbuilt),
+        Err(TreeFault::Failed) => Err(read_fault(alloc, path)),
+        Err(TreeFault::NoMemory) => Err(RunFault::NoMemory),
+    }
+}
+
+/// The path at which a class has to stand.
+fn class_path(alloc: Global, dir: &Text, name: &Text) -> Result<Text, AllocError>
+    ensures { IfOk result (λ path. path ≡ class_path dir.now name.now) }
+{
+    let mut path = path_in(alloc, dir, name)?;
+    path.push_slice(b".class")?;
+    Ok(path)
+}
+
+/// Adds the class of a file of so many bytes, where the file stands at the path of the class.
+fn add_class(
+    alloc: Global,
+    dir: &Text,
+    path: &Text,
+    bytes: &Text,
+    so_far: &mut ReadSoFar,
+    class: ClassInfo,
+) -> Result<(), RunFault>
+    requires { so_far.old.bytes + length bytes.now ≤ MAX_BYTES }
+    ensures added { Gives so_far.new result (add_class dir.now path.now bytes.now so_far.old class) }
+    ensures small { so_far.new.bytes ≤ MAX_BYTES }
+    ensures fault { IfErr result IsOwn }
+{
+    let right = class_path(alloc, dir, &class.name)?;
+    if path.as_slice() != right.as_slice() {
+        return Err(RunFault::Unbuilt);
+    }
+    match so_far.classes.push(class) {
+        Ok(()) => {
+            so_far.bytes += bytes.as_slice().len() as u32;
+            Ok(())
+        }
+        Err(_) => Err(RunFault::NoMemory),
+    }
+}
+
+/// Takes the bytes of a noted file: the sum of the lengths, the form and the name of its class.
+fn take_file(
+    alloc: Global,
+    dir: &Text,
+    path: &Text,
+    bytes: &Text,
+    so_far: &mut ReadSoFar,
+) -> Result<(), RunFault>
+    requires small { so_far.old.bytes ≤ MAX_BYTES }
+    requires within { length bytes.now ≤ MAX_FILE_BYTES }
+    ensures taken { Gives so_far.new result (take_file dir.now path.now bytes.now so_far.old) }
+    ensures small { so_far.new.bytes ≤ MAX_BYTES }
+    ensures fault { IfErr result IsOwn }
+{
+    if so_far.bytes + bytes.as_slice().len() as u32 > MAX_BYTES {
+        return Err(RunFault::Unbuilt);
+    }
+    match read_class(alloc, bytes.as_slice()) {
+        Ok(class) => add_class(alloc, dir, path, bytes, so_far, class),
+        Err(ClassFault::Unbuilt) => Err(RunFault::Unbuilt),
+        Err(ClassFault::NoMemory) => Err(RunFault::NoMemory),
+    }
+}
+
+/// Reads a noted file.
+fn read_file<T: Tree>(
+    alloc: Global,
+    tree: &mut T,
+    dir: &Text,
+    path: &Text,
+    so_far: &mut ReadSoFar,
+) -> Result<(), RunFault>
+    requires { so_far.old.bytes ≤ MAX_BYTES }
+    ensures read { (files : List MemFile) → T.told tree.old ≡ Some files →
+        Gives so_far.new result (read_file files dir.now path.now so_far.old) }
+    ensures small { so_far.new.bytes ≤ MAX_BYTES }
+    ensures same { T.told tree.new ≡ T.told tree.old }
+    ensures grows { T.count tree.old ≤ T.count tree.new }
+    ensures fault { IfErr result (IsOfTree (T.count tree.old) (T.count tree.new) (T.last_failed tree.new)) }
+{
+    let bytes = read_bytes(alloc, tree, path)?;
+    take_file(alloc, dir, path, &bytes, so_far)
+}
+
+/// Reads the noted files in their order, and gives their classes. Not built where a file isn't of the form,
+/// stands at another path than its class's, or passes a limit.
+pub fn read_classes<T: Tree>(
+    alloc: Global,
+    tree: &mut T,
+    dir: &Text,
+    paths: &Items<Text>,
+) -> Result<Items<ClassInfo>, RunFault>
+    ensures classes { (files : List MemFile) → T.told tree.old ≡ Some files →
+        Reads (classes_of files dir.now paths.now) result }
+    ensures same { T.told tree.new ≡ T.told tree.old }
+    ensures grows { T.count tree.old ≤ T.count tree.new }
+    ensures fault { IfErr result (IsOfTree (T.count tree.old) (T.count tree.new) (T.last_failed tree.new)) }
+{
+    let mut so_far = ReadSoFar {
+        bytes: 0,
+        classes: Items::new(alloc),
+    };
+    for path in paths.as_slice() {
+        read_file(alloc, tree, dir, path, &mut so_far)?;
+    }
+    Ok(so_far.classes)
+}
+
+/// Makes a program of the classes and the root that the bytes of a roots file name.
+fn rooted(alloc: Global, classes: Items<ClassInfo>, roots: &Text) -> Result<Program, RunFault>
+    ensures program { Loads (with_root classes (root_in classes (only_line roots.now))) result }
+    ensures fault { IfErr result IsOwn }
+{
+    let root = root_in(alloc, classes.as_slice(), only_line(roots.as_slice()))?;
+    match root {
+        Some(root) if is_within_limits(classes.as_slice()) => Ok(Program { classes, root }),
+        _ => Err(RunFault::Unbuilt),
+    }
+}
+
+/// Reads the roots file, and makes the program.
+fn read_roots<T: Tree>(
+    alloc: Global,
+    tree: &mut T,
+    roots: &Text,
+    classes: Items<ClassInfo>,
+) -> Result<Program, RunFault>
+    ensures program { (files : List MemFile) → T.told tree.old ≡ Some files →
+        Loads (with_roots classes (content files roots.now)) result }
+    ensures same { T.told tree.new ≡ T.told tree.old }
+    ensures grows { T.count tree.old ≤ T.count tree.new }
+    ensures fault { IfErr result (IsOfTree (T.count tree.old) (T.count tree.new) (T.last_failed tree.new)) }
+{
+    let bytes = read_bytes(alloc, tree, roots)?;
+    rooted(alloc, classes, &bytes)
+}
+
+/// Reads the program that the command names: the walk of its directory, the noted files, and the roots
+/// file, in this order. Not built where any of them is of another form or passes a limit, or where no class
+/// is `java/lang/Object`.
+pub fn load<T: Tree>(
+    alloc: Global,
+    tree: &mut T,
+    command: &Command,
+) -> Result<Program, RunFault>
+    ensures program { (files : List MemFile) → T.told tree.old ≡ Some files →
+        Loads (answer_of files command.now.roots command.now.dir) result }
+    ensures same { T.told tree.new ≡ T.told tree.old }
+    ensures grows { T.count tree.old ≤ T.count tree.new }
+    ensures fault { IfErr result (IsOfTree (T.count tree.old) (T.count tree.new) (T.last_failed tree.new)) }
+{
+    let paths = walk_from(alloc, tree, &command.dir)?;
+    let classes = read_classes(alloc, tree, &command.dir, &paths)?;
+    if !has_object(classes.as_slice()) {
+        return Err(RunFault::Unbuilt);
+    }
+    read_roots(alloc, tree, &command.roots, classes)
+}
