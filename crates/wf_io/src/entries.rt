@@ -1,4 +1,4 @@
-ghost use Rattle.std.specs.Prelude.{◌≡◌, ◌≤◌, ◌<◌, List, ℕ, length, IfOk, IsErrOf, IsPermutation};
+ghost use Rattle.std.specs.Prelude.{◌≡◌, ◌≤◌, List, ℕ, length, IfOk, IsPermutation};
 ghost use Rattle.std.specs.List.Sorted.{IsStrictlySortedBy};
 ghost use Rattle.std.specs.Option.{option_copied};
 ghost use Rattle.wf_io.specs.declared.tree.MemFile.{MemFile};
@@ -9,7 +9,8 @@ use std::alloc::{AllocError, Global};
 use std::collections::BTreeSet;
 use wf_base::{Items, Text};
 
-/// Sorts the entries that a tree gave, so that the order in which it gave them no longer matters.
+/// Sorts the entries that a tree gave, and keeps each once, so that it no longer matters in which order
+/// the tree gave them.
 pub fn sorted(entries: Items<Entry>) -> Result<Items<Entry>, AllocError>
     ensures listed { (files : List MemFile) (dir : List ℕ) → IsPermutation (listing files dir) entries →
         IfOk result (λ sorted. sorted ≡ listing files dir) }
@@ -30,6 +31,7 @@ pub fn entries_below(
 ) -> Result<BTreeSet<Entry>, AllocError>
     ensures { IfOk result (λ entries. entries.keys ≡ listing files.now dir.now) }
 {
+    // The set is the listing of the files that were gone over, which are the last ones.
     let mut entries = BTreeSet::new(alloc);
     for i in (0..files.len()).rev() {
         if let Some(entry) = entry_below(alloc, dir, files[i].path.as_slice())? {

@@ -1,4 +1,4 @@
-ghost use Rattle.std.specs.Prelude.{◌≡◌, ◌≤◌, ◌<◌, ◌++◌, ◌↔◌, ◌⊎◌, ℕ, List, [], Some, Ok, length, take, vec_capacity, IsTrue, IsErr, IfOk, OnErr};
+ghost use Rattle.std.specs.Prelude.{◌≡◌, ◌≤◌, ◌<◌, ◌++◌, ◌⊎◌, [], Some, Ok, length, take, vec_capacity, IsErr, IfOk, OnErr};
 ghost use Rattle.wf_io.specs.Faults.{Rose};
 
 use crate::failing::Failing;

@@ -1,6 +1,5 @@
 ghost use Rattle.std.specs.Prelude.{◌≡◌, ◌≤◌, None, length, IfOk};
-ghost use Rattle.wf_io.specs.declared.tree.MemFile.{MemFile};
-ghost use Rattle.wf_io.specs.declared.tree.Call.{Call};
+ghost use Rattle.std.specs.IoError.{error_kind};
 ghost use Rattle.wf_io.specs.RealFiles.{last_failed_of, failures_of};
 
 use crate::failures::Failures;
@@ -106,6 +105,10 @@ fn path_of(path: &[u8]) -> Result<&str, TreeFault> {
 }
 
 impl From<io::Error> for TreeFault {
+    ghost use Rattle.wf_io.specs.RealFiles.{fault_of};
+
+    ghost from_gives = { λ error fault. fault ≡ fault_of (error_kind error) };
+
     fn from(error: io::Error) -> TreeFault {
         if error.kind() == ErrorKind::OutOfMemory {
             TreeFault::NoMemory

@@ -1,5 +1,4 @@
 ghost use Rattle.std.specs.Prelude.{◌≡◌, ◌<◌, ◌≤◌, ℕ, List, Option, Some, length, IfOk, IsErrOf, IsPermutation, IsSomeAnd};
-
 ghost use Rattle.wf_io.specs.declared.tree.MemFile.{MemFile};
 ghost use Rattle.wf_io.specs.declared.tree.Call.{Call};
 ghost use Rattle.wf_io.specs.Tree.{listing, content, KeepsLastFailed};
