@@ -199,7 +199,7 @@ exact_class_behind : (major : ℕ) (pool : List PoolEntry) → Exact (ClassBehin
 unfolding class_behind
 exact_class_behind major pool =
     exact_then exact_u2 (λ flags _. exact_then (exact_class_named pool) (λ name at_name. exact_where (is_class_name name) at_name why.Name (
-    exact_then (exact_super pool flags name) (λ super _. exact_then (exact_counted (exact_class_named pool)) (λ interfaces _. exact_then (exact_counted exact_never) (λ fields _.
+    exact_then (exact_super pool flags name) (λ super _. exact_then (exact_counted exact_never) (λ interfaces _. exact_then (exact_counted exact_never) (λ fields _.
     exact_then exact_u2 (λ n _. exact_then (exact_many_on (exact_method pool) n []) (λ methods _. exact_then (exact_counted exact_never) (λ attributes _.
     exact_is _)))))))))
 

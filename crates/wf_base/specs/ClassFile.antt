@@ -1,5 +1,5 @@
 -- Which bytes spell a class (JVMS 4.1 to 4.7), item by item. Written so far: the constants Utf8, Class,
--- Methodref and NameAndType; methods with one attribute, a Code; no fields and no other attributes.
+-- Methodref and NameAndType; methods with one attribute, a Code; no interfaces, fields or other attributes.
 use Rattle.std.specs.Prelude.{ℕ, zero, suc, ◌-◌, Bool, true, false, not, ◌&&◌, ◌||◌, List, [], ◌∷◌, ◌++◌, Option, Some, None, ◌==◌, nat_lt, nat_le, is_some, option_and_then, slice_get, codes, bit_and, if◌then◌else◌}
 use Rattle.std.specs.List.{list_all, list_any, filter_map}
 use Rattle.std.specs.Str.{bytes_eq}
@@ -164,7 +164,7 @@ ClassBehind major pool =
     Then U2 (λ flags.
     Then (ClassNamed pool) (λ name. Where (is_class_name name) (
     Then (SuperIs pool flags name) (λ superclass.
-    Then (Counted (ClassNamed pool)) (λ interfaces.
+    Then (Counted NotWritten) (λ interfaces.
     Then (Counted NotWritten) (λ fields.
     Then U2 (λ n. Then (ManyOn (MethodIs pool) n []) (λ methods.
     Then (Counted {X = Unit {0}} NotWritten) (λ attributes.

@@ -231,7 +231,7 @@ class_behind major pool p = do
   name ← class_named pool flags.1
   named ← wanted (is_class_name name.0) flags.1.at why.Name
   super ← super_class pool flags.0 name.0 name.1
-  interfaces ← counted (class_named pool) super.1
+  interfaces ← counted not_written super.1
   fields ← counted not_written interfaces.1
   n ← number w16 fields.1
   methods ← many_on (method pool) n.0 [] n.1

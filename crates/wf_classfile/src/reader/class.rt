@@ -6,8 +6,8 @@ ghost use Rattle.std.specs.Str.{bytes_eq};
 ghost use Rattle.wf_base.specs.declared.class_info.PoolEntry.TheVariants.{Unusable};
 ghost use Rattle.wf_base.specs.ClassFile.{is_interface, is_sound};
 ghost use Rattle.wf_base.specs.Names.{object_name};
-ghost use Rattle.wf_base.specs.Reading.{many, super_class, class_named, class_behind, class_file, class_of};
-ghost use Rattle.wf_classfile.specs.Readers.{Gives, GivesAs, GivesValue};
+ghost use Rattle.wf_base.specs.Reading.{super_class, class_named, class_behind, class_file, class_of};
+ghost use Rattle.wf_classfile.specs.Readers.{Gives, GivesValue};
 
 use super::Reader;
 use crate::fault::ClassFault;
@@ -53,17 +53,6 @@ impl<'a> Reader<'a> {
         Ok(Text::from_slice(self.alloc, name)?)
     }
 
-    #[tactic(auto, using(crate::proofs::Many::goes_on, crate::proofs::Many::ends, crate::proofs::Many::is_done))]
-    fn classes_named(&mut self, pool: &[PoolEntry], count: u16) -> Result<Vec<Text>, ClassFault>
-        ensures { GivesAs (λ names. names.items) self.new.cursor result (many (class_named pool.now) count self.old.cursor) }
-    {
-        let mut names = Vec::new(self.alloc);
-        for _ in 0..count {
-            names.push(self.class_named(pool)?)?;
-        }
-        Ok(names)
-    }
-
     /// What follows the pool.
     #[tactic(auto, unfolding(wf_base::specs::Reading::class_behind, wf_base::specs::Reading::counted))]
     fn class_behind(&mut self, major: u16, pool: Vec<PoolEntry>) -> Result<ClassInfo, ClassFault>
@@ -75,8 +64,7 @@ impl<'a> Reader<'a> {
             return Err(ClassFault::Unbuilt);
         }
         let superclass = self.super_class(&pool, flags, name.as_slice())?;
-        let count = self.u2()?;
-        let interfaces = self.classes_named(&pool, count)?;
+        let interfaces = self.no_items::<Text>()?;
         let fields = self.no_items::<FieldInfo>()?;
         let count = self.u2()?;
         let mut met = Keys::new(self.alloc);
@@ -87,7 +75,7 @@ impl<'a> Reader<'a> {
         Ok(ClassInfo {
             name,
             superclass,
-            interfaces: Items::from_vec(interfaces),
+            interfaces,
             flags,
             major,
             pool: Items::from_vec(pool),
