@@ -1,7 +1,6 @@
 -- The functions that read class files are exact for the grammar, piece by piece.
-use Rattle.std.proofs.Common.{◌≡◌, ℕ, zero, suc, ◌+◌, ◌-◌, Bool, true, false, not, ◌&&◌, ◌||◌, ◌⊎◌, cond, eqb, List, [], ◌∷◌, ◌++◌, length, Option, Some, None, Result, Ok, Err, refl, sym, ap, subst, ◌∙◌, append_assoc, add_assoc, arith, inl, inr}
-use Rattle.std.specs.Prelude.{codes, nat_lt, nat_le, ◌==◌}
-use Rattle.std.specs.Int.{Width, w8, w16, w32}
+use Rattle.std.proofs.Common.{◌≡◌, ℕ, zero, suc, ◌+◌, ◌-◌, Bool, true, false, not, ◌&&◌, ◌⊎◌, cond, eqb, List, [], ◌∷◌, ◌++◌, length, Option, Some, None, Result, Ok, Err, refl, sym, ap, subst, ◌∙◌, append_assoc, arith, inl, inr}
+use Rattle.std.specs.Prelude.{codes, nat_le}
 use Rattle.std.specs.List.{list_all, list_any, filter_map}
 use Rattle.std.specs.Str.{bytes_eq}
 use Rattle.std.proofs.lemmas.Bool.{eqb-true}
@@ -14,12 +13,11 @@ use Rattle.wf_base.specs.declared.class_info.PoolEntry.TheVariants as entry
 use Rattle.wf_base.specs.declared.fault.Why.{Why}
 use Rattle.wf_base.specs.declared.fault.Why.TheVariants as why
 use Rattle.wf_base.specs.Place.{Place, spot}
-use Rattle.wf_base.specs.Names.{object_name, is_class_name, is_method_name}
-use Rattle.wf_base.specs.Grammar.{IsBytes, U1, U2, U4, Run, Is, Then, Where, Given, Choice, Inside, Many, Counted, ManyOn}
-use Rattle.wf_base.specs.ClassFile
-use Rattle.wf_base.specs.ClassFile.{TextOf, EntryAs, a_text, a_class, a_method, a_name_type, Entry, Entries, no_more, narrow, is_text_byte, is_sound, text_at, class_at, HandlerIs, CodeIs, MethodAttributeAs, a_code, AttributeOf, only_code, Key, is_key, is_method_descriptor, MethodIs, SuperIs, ClassNamed, ClassBehind, Spells, is_native_or_abstract, is_interface}
-use Rattle.wf_base.specs.Reading.{Refusal, Bad, NotYet, ◌>>=◌, Reader, wanted, found, written, number, run, many, many_on, counted, not_written, bad_byte_from, text_of, text_entry, class_entry, method_entry, name_type_entry, is_later_tag, entry_as, pool_entry, wrong_from, handler, code, whole, method_attribute_as, method_attribute, method, super_class, class_named, class_behind, class_file, class_of}
-use Rattle.wf_base.proofs.Exact.{Took, Exact, next, bind_ok, ok_is, wanted_ok, written_ok, exact_u1, exact_u2, exact_u4, exact_run, exact_is, exact_then, exact_where, exact_written, exact_given, exact_choice, exact_never, exact_many, exact_counted, exact_many_on, exact_inside}
+use Rattle.wf_base.specs.Names.{is_class_name, is_method_name}
+use Rattle.wf_base.specs.Grammar.{IsBytes, U2, Is, Then}
+use Rattle.wf_base.specs.ClassFile.{TextOf, EntryAs, a_text, a_class, a_method, a_name_type, Entry, Entries, no_more, narrow, is_text_byte, text_at, class_at, HandlerIs, CodeIs, MethodAttributeAs, a_code, AttributeOf, only_code, Key, is_key, is_method_descriptor, MethodIs, SuperIs, ClassNamed, ClassBehind, Spells, is_native_or_abstract}
+use Rattle.wf_base.specs.Reading.{Refusal, Bad, NotYet, ◌>>=◌, wanted, written, many, bad_byte_from, text_of, text_entry, class_entry, method_entry, name_type_entry, is_later_tag, entry_as, pool_entry, wrong_from, handler, code, whole, method_attribute_as, method_attribute, method, super_class, class_named, class_behind, class_file, class_of}
+use Rattle.wf_base.proofs.Exact.{Took, Exact, bind_ok, ok_is, wanted_ok, written_ok, exact_u1, exact_u2, exact_u4, exact_run, exact_is, exact_then, exact_where, exact_written, exact_given, exact_choice, exact_never, exact_counted, exact_many_on, exact_inside}
 
 -- ---- the constant pool
 

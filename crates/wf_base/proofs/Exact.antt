@@ -1,5 +1,5 @@
 -- A reader is exact for a grammar where what it reads is spelled so, and what is spelled so is read.
-use Rattle.std.proofs.Common.{◌≡◌, ℕ, zero, suc, ◌+◌, ◌%◌, ◌^◌, ◌<◌, ◌≤◌, Bool, true, false, cond, ltb, List, [], ◌∷◌, ◌++◌, length, get_or, take, drop, Option, Some, None, Result, Ok, Err, refl, sym, ap, subst, ◌∙◌, append_assoc, add_assoc, arith, inl, inr}
+use Rattle.std.proofs.Common.{◌≡◌, ℕ, zero, suc, ◌+◌, ◌%◌, ◌^◌, ◌<◌, ◌≤◌, Bool, true, false, cond, ltb, List, [], ◌∷◌, ◌++◌, length, take, drop, Option, Some, None, Result, Ok, Err, refl, sym, ap, subst, ◌∙◌, append_assoc, arith, inl, inr}
 use Rattle.std.specs.Int.{Width, w8, w16, w32, byte_len, from_be_bytes, to_be_bytes}
 use Rattle.std.proofs.lemmas.Bool.{cases_lt, ltb-false, le-ltb}
 use Rattle.std.proofs.lemmas.List.{take_at, drop_at, take-append-drop, length-append, length-take, get_or-drop, get_or-take, get_or_past, append-nil}
@@ -8,7 +8,7 @@ use Rattle.wf_base.specs.declared.fault.Why.{Why}
 use Rattle.wf_base.specs.declared.fault.Why.TheVariants as why
 use Rattle.wf_base.specs.Place.{Place, spot, after, number_at}
 use Rattle.wf_base.specs.Grammar.{IsBytes, Number, U1, U2, U4, Run, Is, Then, Where, Given, Choice, Inside, Many, Counted, ManyOn, NotWritten}
-use Rattle.wf_base.specs.Reading.{Refusal, Bad, NotYet, ◌>>=◌, Reader, wanted, found, written, number, run, many, many_on, counted, not_written}
+use Rattle.wf_base.specs.Reading.{Refusal, Bad, ◌>>=◌, Reader, wanted, found, written, number, run, many, many_on, counted, not_written}
 
 -- what a reader took from the front
 pub record Took {X : Type 0} (G : List ℕ → X → Type 0) (p q : Place) (x : X) : Type 0 where

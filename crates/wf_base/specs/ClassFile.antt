@@ -1,6 +1,6 @@
 -- Which bytes spell a class (JVMS 4.1 to 4.7), item by item. Written so far: the constants Utf8, Class,
 -- Methodref and NameAndType; methods with one attribute, a Code; no interfaces, fields or other attributes.
-use Rattle.std.specs.Prelude.{ℕ, zero, suc, ◌-◌, Bool, true, false, not, ◌&&◌, ◌||◌, List, [], ◌∷◌, ◌++◌, Option, Some, None, ◌==◌, nat_lt, nat_le, is_some, option_and_then, slice_get, codes, bit_and, if◌then◌else◌}
+use Rattle.std.specs.Prelude.{ℕ, suc, ◌-◌, Bool, true, false, not, ◌&&◌, ◌||◌, List, [], ◌∷◌, ◌++◌, Option, Some, None, ◌==◌, nat_lt, nat_le, is_some, option_and_then, slice_get, codes, bit_and, if◌then◌else◌}
 use Rattle.std.specs.List.{list_all, list_any, filter_map}
 use Rattle.std.specs.Str.{bytes_eq}
 use Rattle.wf_base.specs.declared.class_info.ClassInfo.{ClassInfo}
@@ -9,7 +9,7 @@ use Rattle.wf_base.specs.declared.class_info.Handler.{Handler}
 use Rattle.wf_base.specs.declared.class_info.MethodInfo.{MethodInfo}
 use Rattle.wf_base.specs.declared.class_info.PoolEntry.{PoolEntry}
 use Rattle.wf_base.specs.declared.class_info.PoolEntry.TheVariants.{Unusable, Utf8, Integer, Float, Long, Double, Class, Str, Field, Method, InterfaceMethod, NameType, Handle, MethodKind, Dynamic}
-use Rattle.wf_base.specs.Grammar.{U1, U2, U4, Run, Is, Then, Where, Given, Choice, Inside, Many, Counted, ManyOn, NotWritten}
+use Rattle.wf_base.specs.Grammar.{U1, U2, U4, Run, Is, Then, Where, Given, Choice, Inside, Counted, ManyOn, NotWritten}
 use Rattle.wf_base.specs.Names.{object_name, is_class_name, is_method_name}
 
 -- whether a flag is set (JVMS tables 4.1-A and 4.6-A)

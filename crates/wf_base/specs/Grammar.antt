@@ -1,5 +1,5 @@
 -- The pieces that a grammar of bytes is made of. A grammar relates bytes to what they spell.
-use Rattle.std.specs.Prelude.{◌≡◌, ℕ, zero, suc, ◌+◌, ◌^◌, ◌<◌, Bool, true, false, List, [], ◌∷◌, ◌++◌, length, get_or, Option, Some}
+use Rattle.std.specs.Prelude.{◌≡◌, ℕ, zero, suc, ◌^◌, ◌<◌, Bool, true, false, List, [], ◌∷◌, ◌++◌, length, get_or, Option, Some}
 use Rattle.std.specs.Int.{Width, w8, w16, w32, byte_len, to_be_bytes}
 
 -- each is a byte

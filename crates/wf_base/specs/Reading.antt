@@ -1,6 +1,6 @@
 -- Reading a class file from left to right, with the first fault that is met: for each piece of the grammar
 -- the function that reads it from the front of the bytes that are left.
-use Rattle.std.specs.Prelude.{◌≡◌, ℕ, zero, suc, ◌+◌, ◌-◌, Bool, true, false, not, ◌&&◌, ◌||◌, List, [], ◌∷◌, ◌++◌, Option, Some, None, Result, Ok, Err, ◌==◌, nat_lt, nat_le, is_some, length, take, codes, if◌then◌else◌}
+use Rattle.std.specs.Prelude.{ℕ, zero, suc, ◌+◌, ◌-◌, Bool, true, false, not, ◌&&◌, ◌||◌, List, [], ◌∷◌, ◌++◌, Option, Some, None, Result, Ok, Err, ◌==◌, nat_lt, nat_le, is_some, length, take, codes, if◌then◌else◌}
 use Rattle.std.specs.Int.{Width, w8, w16, w32, byte_len}
 use Rattle.std.specs.List.{list_all, list_any, filter_map}
 use Rattle.std.specs.Str.{bytes_eq}
@@ -14,7 +14,7 @@ use Rattle.wf_base.specs.declared.fault.Why.{Why}
 use Rattle.wf_base.specs.declared.fault.Why.TheVariants as why
 use Rattle.wf_base.specs.Place.{Place, spot, after, number_at}
 use Rattle.wf_base.specs.Names.{object_name, is_class_name, is_method_name}
-use Rattle.wf_base.specs.ClassFile.{is_text_byte, text_at, class_at, has_name_type, is_sound, only_code, Key, is_key, is_method_descriptor, is_native_or_abstract, is_interface}
+use Rattle.wf_base.specs.ClassFile.{is_text_byte, text_at, class_at, is_sound, only_code, Key, is_key, is_method_descriptor, is_native_or_abstract, is_interface}
 
 -- why reading stops: a fault with its place, or a case that isn't written yet
 pub data Refusal : Type 0 where

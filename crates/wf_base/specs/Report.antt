@@ -1,12 +1,11 @@
 -- The text of a world (this project's own).
-use Rattle.std.specs.Prelude.{ℕ, List, [], ◌∷◌, ◌++◌, length, map, codes}
+use Rattle.std.specs.Prelude.{ℕ, List, [], ◌∷◌, ◌++◌, length, codes}
 use Rattle.std.specs.List.{flat_map}
 use Rattle.std.specs.Fmt.{decimal}
 use Rattle.wf_base.specs.declared.world.LinkError.{LinkError}
 use Rattle.wf_base.specs.declared.world.LinkError.TheVariants.{NoClassDefFound, NoSuchField, NoSuchMethod, IncompatibleClassChange, Instantiation}
 use Rattle.wf_base.specs.declared.world.Unresolved.{Unresolved}
 use Rattle.wf_base.specs.declared.world.World.{World}
-use Rattle.wf_base.specs.declared.member.MemberName.{MemberName}
 use Rattle.wf_base.specs.NameForm.{escaped, member_text}
 
 -- a line ends with a line feed

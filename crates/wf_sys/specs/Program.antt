@@ -1,11 +1,10 @@
 -- The flow system of a program, a row for each case (this project's own, after SkipFlow, CGO 2025). A
 -- program is the list of its classes.
-use Rattle.std.specs.Prelude.{◌≡◌, ℕ, Bool, false, List, Contains, Option, Some, slice_get}
+use Rattle.std.specs.Prelude.{◌≡◌, ℕ, false, List, Contains, Some, slice_get}
 use Rattle.wf_base.specs.declared.class_info.ClassInfo.{ClassInfo}
 use Rattle.wf_base.specs.declared.class_info.CodeInfo.{CodeInfo}
 use Rattle.wf_base.specs.declared.class_info.MethodInfo.{MethodInfo}
 use Rattle.wf_base.specs.declared.member.MemberName.{MemberName}
-use Rattle.wf_base.specs.declared.world.LinkError.{LinkError}
 use Rattle.wf_base.specs.ClassFile.{is_interface}
 use Rattle.wf_sys.specs.declared.flow.Flow.{Flow}
 use Rattle.wf_sys.specs.declared.flow.Flow.TheVariants.{Set}

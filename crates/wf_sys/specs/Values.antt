@@ -4,7 +4,6 @@ use Rattle.wf_sys.specs.declared.flow.Flow.{Flow}
 use Rattle.wf_sys.specs.declared.flow.Flow.TheVariants.{Empty, Set}
 
 infixl 20 ◌⊑◌
-
 -- Empty is below every value, and a token that is set is below itself.
 abbrev pub ◌⊑◌ : Flow → Flow → Type 0
 Empty ⊑ y = Unit {0}

@@ -1,8 +1,7 @@
 -- The world of a solution.
-use Rattle.std.specs.Prelude.{ℕ, List}
+use Rattle.std.specs.Prelude.{List}
 use Rattle.wf_base.specs.declared.class_info.ClassInfo.{ClassInfo}
 use Rattle.wf_base.specs.declared.member.MemberName.{MemberName}
-use Rattle.wf_base.specs.declared.world.LinkError.{LinkError}
 use Rattle.wf_base.specs.declared.world.Unresolved.{Unresolved}
 use Rattle.wf_base.specs.declared.world.World.{World}
 use Rattle.wf_sys.specs.declared.flow.Flow.{Flow}

@@ -19,13 +19,13 @@ use Rattle.wf_sys.specs.declared.flow.Flow.{Flow}
 use Rattle.wf_sys.specs.declared.flow.Flow.TheVariants.{Empty, Set}
 use Rattle.wf_sys.specs.declared.inequality.Inequality.{Inequality}
 use Rattle.wf_sys.specs.Values.{◌⊑◌, IsNonEmpty}
-use Rattle.wf_sys.specs.System.{IsMet, Solves, Least}
-use Rattle.wf_sys.specs.Names.{method_name, DeclaresMethod, Lists, member_cmp}
+use Rattle.wf_sys.specs.System.{IsMet, Solves}
+use Rattle.wf_sys.specs.Names.{method_name, Lists}
 use Rattle.wf_sys.specs.Nodes.{Node, Inst, Start, Nothing, Initialized, Entered, Parameter, Returned, Touched}
-use Rattle.wf_sys.specs.Program.{InstructionStart, first, Stands, Predicate, entry, return_opcode, token_where, Row, initializes_superclass, returns, Seed, start, entered, initialized}
-use Rattle.wf_sys.specs.WorldOf.{IsEntered, IsTouched, IsUnresolved, IsWorldOf, IsLeastWorld}
+use Rattle.wf_sys.specs.Program.{first, Stands, Predicate, entry, return_opcode, token_where, Row, initializes_superclass, returns, Seed, start, entered, initialized}
+use Rattle.wf_sys.specs.WorldOf.{IsEntered, IsTouched, IsWorldOf, IsLeastWorld}
 use Rattle.world.specs.Form.{IsOfForm}
-use Rattle.world.proofs.ListLaws.{and_both, contains_head, contains_tail, contains_cases, contains_nothing, all_at, any_at, any_where}
+use Rattle.world.proofs.ListLaws.{and_both, contains_head, contains_cases, contains_nothing, all_at, any_at, any_where}
 
 -- ---- the solution
 

@@ -1,7 +1,6 @@
 -- What the outcome says of its program, and that there is one outcome.
-use Rattle.std.proofs.Common.{◌≡◌, ℕ, ◌+◌, ◌<◌, Bool, true, false, ◌&&◌, cond, ltb, ◌⊎◌, List, [], ◌∷◌, ◌++◌, length, Option, Some, None, Result, Ok, Err, refl, sym, ap, subst, ◌∙◌, inl, inr}
+use Rattle.std.proofs.Common.{◌≡◌, ℕ, ◌+◌, Bool, true, false, ◌&&◌, cond, ltb, ◌⊎◌, List, [], ◌∷◌, ◌++◌, length, Option, Some, None, Result, Ok, Err, refl, sym, ap, subst, ◌∙◌, inl, inr}
 use Rattle.std.specs.Prelude.{Contains, option_and_then, option_map}
-use Rattle.std.specs.List.{list_any}
 use Rattle.std.specs.Str.{bytes_eq}
 use Rattle.wf_base.specs.declared.class_info.ClassInfo.{ClassInfo}
 use Rattle.wf_base.specs.declared.class_info.MethodInfo.{MethodInfo}
@@ -25,7 +24,7 @@ use Rattle.world.specs.Output.{IsStatusOf}
 use Rattle.world.specs.Walk.{each, noted_from}
 use Rattle.world.specs.Load.{class_path, add_class, take_file, read_file, classes_of, has_object, only_line, root_line, root_among, first_of, root_in, is_within_limits}
 use Rattle.world.specs.Outcome.{Answer, NotBuilt, NoRoots, Analysed, within_limits, with_root, with_roots, with_classes, with_walked, answer_of, Outcome, no_command, command, Loads}
-use Rattle.world.proofs.ListLaws.{and_both, contains_head, contains_tail, contains_cases, contains_nothing}
+use Rattle.world.proofs.ListLaws.{contains_head, contains_tail, contains_cases, contains_nothing}
 
 -- ---- options and tests that came out
 

@@ -1,5 +1,5 @@
 -- Programs of the first form.
-use Rattle.std.specs.Prelude.{◌≡◌, ℕ, true, List, Contains}
+use Rattle.std.specs.Prelude.{◌≡◌, true, List, Contains}
 use Rattle.wf_base.specs.declared.class_info.ClassInfo.{ClassInfo}
 use Rattle.wf_base.specs.declared.member.MemberName.{MemberName}
 use Rattle.wf_classfile.specs.FirstForm.{is_first_form}

@@ -1,5 +1,5 @@
 -- What is read of a tree: the classes of the noted files, and the root.
-use Rattle.std.specs.Prelude.{◌≡◌, ℕ, ◌+◌, Bool, true, false, not, ◌&&◌, List, [], ◌∷◌, ◌++◌, Option, Some, None, nat_lt, nat_eq, length, take, ◌-◌, codes, option_and_then, option_map, count_by, if◌then◌else◌}
+use Rattle.std.specs.Prelude.{ℕ, ◌+◌, Bool, not, ◌&&◌, List, [], ◌∷◌, ◌++◌, Option, Some, None, nat_lt, nat_eq, length, take, ◌-◌, codes, option_and_then, option_map, count_by, if◌then◌else◌}
 use Rattle.std.specs.List.{ends_with, list_any}
 use Rattle.std.specs.Str.{bytes_eq}
 use Rattle.wf_base.specs.declared.class_info.ClassInfo.{ClassInfo}

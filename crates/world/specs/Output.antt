@@ -1,5 +1,5 @@
 -- What sinks get.
-use Rattle.std.specs.Prelude.{◌≡◌, ℕ, ◌+◌, ◌<◌, ◌⊎◌, List, [], ◌∷◌, ◌++◌, length, take, Option, Some, codes}
+use Rattle.std.specs.Prelude.{◌≡◌, ℕ, ◌<◌, ◌⊎◌, List, ◌++◌, length, take, Option, Some, codes}
 use Rattle.wf_base.specs.NameForm.{escaped}
 use Rattle.wf_base.specs.Report.{line}
 use Rattle.wf_io.specs.declared.tree.Call.{Call}

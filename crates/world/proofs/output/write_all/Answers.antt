@@ -1,4 +1,4 @@
-use Rattle.std.proofs.Common.{◌-◌, length, drop, ◌∙◌, arith}
+use Rattle.std.proofs.Common.{◌∙◌, arith}
 use Rattle.std.proofs.lemmas.List.{length-take, length-drop, take_rest}
 use Rattle.world.proofs.OutputLaws.{more_taken}
 use Rattle.world.proofs.output.write_all.Goals as goal

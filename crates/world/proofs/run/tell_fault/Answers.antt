@@ -1,4 +1,4 @@
-use Rattle.std.proofs.Common.{◌≡◌, ◌++◌, ℕ, List, codes, subst, ◌∙◌}
+use Rattle.std.proofs.Common.{◌++◌, ℕ, List, codes, subst, ◌∙◌}
 use Rattle.wf_base.specs.NameForm.{escaped}
 use Rattle.wf_base.specs.Report.{line}
 use Rattle.world.specs.declared.fault.RunFault.{RunFault}

@@ -1,4 +1,4 @@
-use Rattle.std.proofs.Common.{◌≡◌, ◌+◌, ◌-◌, ◌*◌, ◌≤◌, ℕ, List, Some, false, drop}
+use Rattle.std.proofs.Common.{◌≡◌, ◌+◌, ◌-◌, ◌*◌, ◌≤◌, List, Some, false, drop}
 use Rattle.wf_io.specs.declared.tree.MemFile.{MemFile}
 use Rattle.world.specs.declared.limits.TheConstants.{MAX_ENTRIES}
 use Rattle.world.specs.Walk.{each, visit, walk}
