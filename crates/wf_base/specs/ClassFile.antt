@@ -1,6 +1,6 @@
 -- Which bytes spell a class (JVMS 4.1 to 4.7), item by item. Written so far: the constants Utf8, Class,
 -- Methodref and NameAndType; methods with one attribute, a Code; no interfaces, fields or other attributes.
-use Rattle.std.specs.Prelude.{ℕ, suc, ◌-◌, Bool, true, false, not, ◌&&◌, ◌||◌, List, [], ◌∷◌, ◌++◌, Option, Some, None, ◌==◌, nat_lt, nat_le, is_some, option_and_then, slice_get, codes, bit_and, if◌then◌else◌}
+use Rattle.std.specs.Prelude.{ℕ, suc, ◌-◌, Bool, true, false, not, ◌&&◌, ◌||◌, List, [], ◌∷◌, ◌++◌, Option, Some, None, ◌==◌, nat_lt, nat_le, is_some, option_and_then, option_map, slice_get, codes, bit_and, if◌then◌else◌}
 use Rattle.std.specs.List.{list_all, list_any, filter_map}
 use Rattle.std.specs.Str.{bytes_eq}
 use Rattle.wf_base.specs.declared.class_info.ClassInfo.{ClassInfo}
@@ -10,6 +10,8 @@ use Rattle.wf_base.specs.declared.class_info.MethodInfo.{MethodInfo}
 use Rattle.wf_base.specs.declared.class_info.PoolEntry.{PoolEntry}
 use Rattle.wf_base.specs.declared.class_info.PoolEntry.TheVariants.{Unusable, Utf8, Integer, Float, Long, Double, Class, Str, Field, Method, InterfaceMethod, NameType, Handle, MethodKind, Dynamic}
 use Rattle.wf_base.specs.Grammar.{U1, U2, U4, Run, Is, Then, Where, Given, Choice, Inside, Counted, ManyOn, NotWritten}
+use Rattle.wf_base.specs.declared.member.MemberName.{MemberName}
+use Rattle.wf_base.specs.NameForm.{member_of}
 use Rattle.wf_base.specs.Names.{object_name, is_class_name, is_method_name}
 
 -- whether a flag is set (JVMS tables 4.1-A and 4.6-A)
@@ -77,6 +79,28 @@ class_at pool i = option_and_then (text_at pool) (option_and_then class_in (slic
 abbrev pub has_name_type : List PoolEntry → ℕ → Bool
 has_name_type pool i = is_some (option_and_then (λ e. if is_name_type e then Some e else None) (slice_get pool i))
 
+-- the places of a method's class and of its name with its descriptor
+abbrev pub method_in : PoolEntry → Option (ℕ × ℕ)
+method_in (Method class member) = Some (class, member)
+method_in e = None
+
+-- the places of a name and a descriptor
+abbrev pub name_type_in : PoolEntry → Option (ℕ × ℕ)
+name_type_in (NameType name desc) = Some (name, desc)
+name_type_in e = None
+
+-- a name and a descriptor with a class
+abbrev pub member_with : List PoolEntry → List ℕ → ℕ × ℕ → Option MemberName
+member_with pool class places = option_and_then (λ name. option_map (λ desc. member_of class name desc) (text_at pool places.1)) (text_at pool places.0)
+
+-- the method that a class and a name with its descriptor make
+abbrev pub method_with : List PoolEntry → ℕ × ℕ → Option MemberName
+method_with pool places = option_and_then (λ class. option_and_then (member_with pool class) (option_and_then name_type_in (slice_get pool places.1))) (class_at pool places.0)
+
+-- the method that a place names
+abbrev pub method_at : List PoolEntry → ℕ → Option MemberName
+method_at pool i = option_and_then (method_with pool) (option_and_then method_in (slice_get pool i))
+
 -- whether a constant's own places are of the sorts that it needs
 abbrev pub is_sound : List PoolEntry → PoolEntry → Bool
 is_sound pool Unusable = true
@@ -134,7 +158,7 @@ is_key name desc key = bytes_eq name key.0 && bytes_eq desc key.1
 
 -- a method's descriptor (JVMS 4.3.3)
 abbrev pub is_method_descriptor : List ℕ → Bool
-is_method_descriptor desc = bytes_eq desc (codes "()V")
+is_method_descriptor desc = bytes_eq desc (codes "()V") || bytes_eq desc (codes "()I")
 
 -- a method behind those with the keys that were met
 abbrev pub MethodIs : List PoolEntry → List Key → List ℕ → MethodInfo × List Key → Type 0

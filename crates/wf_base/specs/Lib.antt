@@ -6,3 +6,4 @@ pub mod Names
 pub mod Place
 pub mod Reading
 pub mod Report
+pub mod Members

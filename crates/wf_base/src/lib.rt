@@ -20,7 +20,7 @@ pub use fault::Why;
 pub use grammar::{class_files_are_read_exactly, one_class_a_file};
 pub use ids::{ClassId, FieldId, MethodId, NodeId, TargetId, TypeId};
 pub use items::Items;
-pub use member::MemberName;
+pub use member::{MemberName, MemberRef};
 pub use name_form::{is_member_text, member_text, name_text};
 pub use text::Text;
 pub use world::{LinkError, Unresolved, World};

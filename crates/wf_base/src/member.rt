@@ -1,4 +1,8 @@
+ghost use Rattle.std.specs.Prelude.{◌≡◌, IfOk};
+ghost use Rattle.wf_base.specs.Members.{named_by};
+
 use crate::text::Text;
+use std::alloc::{AllocError, Global};
 
 /// A field or method by its name: the class that declares it, its own name and its descriptor. Names are
 /// ordered by the class, then by the name, then by the descriptor, each by its bytes.
@@ -7,4 +11,25 @@ pub struct MemberName {
     pub class: Text,
     pub name: Text,
     pub desc: Text,
+}
+
+/// The same, where the three names are borrowed.
+#[derive(Clone, Copy, Debug, PartialEq, Eq, Hash)]
+pub struct MemberRef<'a> {
+    pub class: &'a [u8],
+    pub name: &'a [u8],
+    pub desc: &'a [u8],
+}
+
+impl<'a> MemberRef<'a> {
+    /// A name of its own.
+    pub fn to_name(self, alloc: Global) -> Result<MemberName, AllocError>
+        ensures { IfOk result (λ name. name ≡ named_by self.entry) }
+    {
+        Ok(MemberName {
+            class: Text::from_slice(alloc, self.class)?,
+            name: Text::from_slice(alloc, self.name)?,
+            desc: Text::from_slice(alloc, self.desc)?,
+        })
+    }
 }

@@ -1,3 +1,4 @@
 pub mod FormLaws
 pub mod Lists
 pub mod Many
+pub mod CodeLaws

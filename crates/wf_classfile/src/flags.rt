@@ -11,6 +11,7 @@ const INTERFACE: u16 = 0x0200;
 
 const ABSTRACT: u16 = 0x0400;
 
+/// Whether a method or field with these flags is static.
 pub fn is_static(flags: u16) -> bool
     ensures { result ≡ is_static flags }
 {
@@ -23,6 +24,7 @@ pub fn is_native_or_abstract(flags: u16) -> bool
     flags & NATIVE != 0 || flags & ABSTRACT != 0
 }
 
+/// Whether a class with these flags is an interface.
 pub fn is_interface(flags: u16) -> bool
     ensures { result ≡ is_interface flags }
 {

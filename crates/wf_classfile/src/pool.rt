@@ -1,11 +1,12 @@
 //! What the places of a constant pool hold (JVMS 4.4).
 
-ghost use Rattle.std.specs.Prelude.{◌≡◌, is_some, ◌&&◌};
+ghost use Rattle.std.specs.Prelude.{◌≡◌, is_some, ◌&&◌, option_and_then, option_map, slice_get};
 ghost use Rattle.std.specs.List.{list_all};
 ghost use Rattle.std.specs.Option.{option_copied};
-ghost use Rattle.wf_base.specs.ClassFile.{text_at, class_at, has_name_type, is_sound};
+ghost use Rattle.wf_base.specs.ClassFile.{text_at, class_at, name_type_in, member_with, method_at, has_name_type, is_sound};
+ghost use Rattle.wf_base.specs.Members.{named_by};
 
-use wf_base::PoolEntry;
+use wf_base::{MemberRef, PoolEntry};
 
 /// The text at a place.
 pub fn text_at(pool: &[PoolEntry], place: u16) -> Option<&[u8]>
@@ -23,6 +24,30 @@ pub fn class_at(pool: &[PoolEntry], place: u16) -> Option<&[u8]>
 {
     match pool.get(place as usize)? {
         PoolEntry::Class(name) => text_at(pool, *name),
+        _ => None,
+    }
+}
+
+/// The name and the descriptor at a place, with a class.
+fn member_at<'p>(pool: &'p [PoolEntry], class: &'p [u8], place: u16) -> Option<MemberRef<'p>>
+    ensures { option_map named_by result ≡ option_and_then (member_with pool.now class.now) (option_and_then name_type_in (slice_get pool.now place)) }
+{
+    match pool.get(place as usize)? {
+        PoolEntry::NameType(name, desc) => Some(MemberRef {
+            class,
+            name: text_at(pool, *name)?,
+            desc: text_at(pool, *desc)?,
+        }),
+        _ => None,
+    }
+}
+
+/// The method that a place names, where a Methodref stands there.
+pub fn method_at(pool: &[PoolEntry], place: u16) -> Option<MemberRef<'_>>
+    ensures { option_map named_by result ≡ method_at pool.now place }
+{
+    match pool.get(place as usize)? {
+        PoolEntry::Method(class, member) => member_at(pool, class_at(pool, *class)?, *member),
         _ => None,
     }
 }

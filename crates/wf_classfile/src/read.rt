@@ -24,7 +24,7 @@ fn read_form(alloc: Global, bytes: &[u8]) -> Result<ClassInfo, ClassFault>
     ensures { GivesClass result (first_form_of bytes.now) }
 {
     let class = class_of(alloc, bytes)?;
-    if !is_first_form(&class) {
+    if !is_first_form(alloc, &class)? {
         return Err(ClassFault::Unbuilt);
     }
     Ok(class)

@@ -5,17 +5,19 @@ use std::test::Fail;
 
 /// A method of a test's file. Its name has place 5 of the pool, its descriptor 6, and `Code` 7.
 #[derive(Clone, Copy)]
-struct Method {
+struct Method<'a> {
     flags: u16,
+    max_stack: u16,
     max_locals: u16,
-    code: u8,
+    code: &'a [u8],
     /// How many handlers the code has: each is eight zeros.
     handlers: u16,
     /// How often the method stands in the file.
     times: u16,
 }
 
-/// A test's class file. Its name has place 1 of the pool, the class 2, and `java/lang/Object` 3 and 4.
+/// A test's class file. Its name has place 1 of the pool, the class 2, and `java/lang/Object` 3 and 4. A
+/// method `f` of the class has place 11: its name 8, its descriptor 9, and the two 10.
 #[derive(Clone, Copy)]
 struct File<'a> {
     magic: u32,
@@ -23,13 +25,15 @@ struct File<'a> {
     name: &'a [u8],
     method_name: &'a [u8],
     desc: &'a [u8],
+    /// The descriptor of `f`.
+    callee: &'a [u8],
     /// A constant behind the others, if any.
     constant: &'a [u8],
     flags: u16,
     superclass: u16,
     /// The fields and their count.
     fields: &'a [u8],
-    method: Method,
+    method: Method<'a>,
     end: &'a [u8],
 }
 
@@ -49,20 +53,20 @@ const OBJECT: &[u8] = b"\
     \0\x09\0\x06\0\x04\0\x01\0\x05\0\0\0\x0d\0\0\0\0\0\0\0\x01\xb1\0\0\0\0\
     \0\0";
 
-const RETURN: u8 = 0xB1;
-
-const MAIN: Method = Method {
+const MAIN: Method<'static> = Method {
     flags: 0x0009,
+    max_stack: 0,
     max_locals: 0,
-    code: RETURN,
+    code: b"\xb1",
     handlers: 0,
     times: 1,
 };
 
-const INIT: Method = Method {
+const INIT: Method<'static> = Method {
     flags: 0x0001,
+    max_stack: 0,
     max_locals: 1,
-    code: RETURN,
+    code: b"\xb1",
     handlers: 0,
     times: 1,
 };
@@ -75,6 +79,7 @@ fn a_class() -> File<'static> {
         name: b"A",
         method_name: b"main",
         desc: b"()V",
+        callee: b"()I",
         constant: b"",
         flags: 0x0021,
         superclass: 4,
@@ -85,13 +90,33 @@ fn a_class() -> File<'static> {
 }
 
 /// `java/lang/Object` with this method.
-fn an_object(method_name: &[u8], method: Method) -> File<'_> {
+fn an_object<'a>(method_name: &'a [u8], method: Method<'a>) -> File<'a> {
     File {
         name: b"java/lang/Object",
         superclass: 0,
         method_name,
         method,
         ..a_class()
+    }
+}
+
+/// `class A` with a static method of this code that returns nothing.
+fn of_void(max_stack: u16, code: &[u8]) -> File<'_> {
+    File {
+        method: Method {
+            max_stack,
+            code,
+            ..MAIN
+        },
+        ..a_class()
+    }
+}
+
+/// The same that returns an int.
+fn of_int(max_stack: u16, code: &[u8]) -> File<'_> {
+    File {
+        desc: b"()I",
+        ..of_void(max_stack, code)
     }
 }
 
@@ -111,7 +136,7 @@ fn put_class(out: &mut Vec<u8>, name: u16) -> Result<(), AllocError> {
 }
 
 fn put_pool(out: &mut Vec<u8>, file: &File<'_>) -> Result<(), AllocError> {
-    put_u2(out, if file.constant.is_empty() { 8 } else { 9 })?;
+    put_u2(out, if file.constant.is_empty() { 12 } else { 13 })?;
     put_text(out, file.name)?;
     put_class(out, 1)?;
     put_text(out, b"java/lang/Object")?;
@@ -119,16 +144,22 @@ fn put_pool(out: &mut Vec<u8>, file: &File<'_>) -> Result<(), AllocError> {
     put_text(out, file.method_name)?;
     put_text(out, file.desc)?;
     put_text(out, b"Code")?;
+    put_text(out, b"f")?;
+    put_text(out, file.callee)?;
+    out.extend_from_slice(&[12, 0, 8, 0, 9, 10, 0, 2, 0, 10])?;
     out.extend_from_slice(file.constant)
 }
 
-fn put_code(out: &mut Vec<u8>, method: Method) -> Result<(), AllocError> {
+fn put_code(out: &mut Vec<u8>, method: Method<'_>) -> Result<(), AllocError> {
     put_u2(out, 7)?;
-    let size = 13 + 8 * u32::from(method.handlers);
+    let code_size = u16::try_from(method.code.len()).unwrap_or(0);
+    let size = 12 + u32::from(code_size) + 8 * u32::from(method.handlers);
     out.extend_from_slice(&size.to_be_bytes())?;
-    put_u2(out, 0)?;
+    put_u2(out, method.max_stack)?;
     put_u2(out, method.max_locals)?;
-    out.extend_from_slice(&[0, 0, 0, 1, method.code])?;
+    out.extend_from_slice(&[0, 0])?;
+    put_u2(out, code_size)?;
+    out.extend_from_slice(method.code)?;
     put_u2(out, method.handlers)?;
     for _ in 0..method.handlers {
         out.extend_from_slice(&[0; 8])?;
@@ -136,7 +167,7 @@ fn put_code(out: &mut Vec<u8>, method: Method) -> Result<(), AllocError> {
     put_u2(out, 0)
 }
 
-fn put_methods(out: &mut Vec<u8>, method: Method) -> Result<(), AllocError> {
+fn put_methods(out: &mut Vec<u8>, method: Method<'_>) -> Result<(), AllocError> {
     put_u2(out, method.times)?;
     for _ in 0..method.times {
         put_u2(out, method.flags)?;
@@ -186,7 +217,7 @@ fn files_of_the_form(rt: HostRuntime) -> Result<(), Fail> {
         assert_eq!(rt; class.superclass.is_some(), file.superclass == 4);
         assert_eq!(rt; class.major, 52);
         assert_eq!(rt; class.flags, 0x0021);
-        assert_eq!(rt; class.pool.len(), 8);
+        assert_eq!(rt; class.pool.len(), 12);
         assert_eq!(rt; class.methods.len(), *methods);
         for method in class.methods.as_slice() {
             assert_eq!(rt; method.name.as_slice(), file.method_name);
@@ -260,13 +291,6 @@ fn other_files(rt: HostRuntime) -> Result<(), Fail> {
             },
         ),
         (
-            "another instruction",
-            File {
-                method: Method { code: 0, ..MAIN },
-                ..a
-            },
-        ),
-        (
             "a method twice",
             File {
                 method: Method { times: 2, ..MAIN },
@@ -291,7 +315,35 @@ fn other_files(rt: HostRuntime) -> Result<(), Fail> {
                 ..a
             },
         ),
-        ("a result", File { desc: b"()I", ..a }),
+        (
+            "an object made of an int",
+            File {
+                desc: b"()I",
+                ..an_object(
+                    b"<init>",
+                    Method {
+                        max_stack: 1,
+                        code: b"\x06\xac",
+                        ..INIT
+                    },
+                )
+            },
+        ),
+        (
+            "a static constructor",
+            File {
+                method_name: b"<init>",
+                ..a
+            },
+        ),
+        (
+            "an initializer",
+            File {
+                method_name: b"<clinit>",
+                ..a
+            },
+        ),
+        ("a long", File { desc: b"()J", ..a }),
         (
             "a name with a slash",
             File {
@@ -304,6 +356,125 @@ fn other_files(rt: HostRuntime) -> Result<(), Fail> {
     for (label, file) in &cases {
         let bytes = bytes_of(rt.alloc(), file)?;
         assert!(rt; is_unbuilt(&rt, &bytes), "{label}");
+    }
+    Ok(())
+}
+
+#[test]
+fn codes_of_the_form(rt: HostRuntime) -> Result<(), Fail> {
+    let cases = [
+        ("-1", of_int(1, b"\x02\xac")),
+        ("0", of_int(1, b"\x03\xac")),
+        ("1", of_int(1, b"\x04\xac")),
+        ("2", of_int(1, b"\x05\xac")),
+        ("3", of_int(1, b"\x06\xac")),
+        ("4", of_int(1, b"\x07\xac")),
+        ("5", of_int(1, b"\x08\xac")),
+        (
+            "calls",
+            File {
+                callee: b"()V",
+                ..of_void(0, b"\xb8\0\x0b\xb8\0\x0b\xb1")
+            },
+        ),
+        ("the int of a call", of_int(1, b"\xb8\0\x0b\xac")),
+        ("a full stack", of_void(2, b"\x06\xb8\0\x0b\xb1")),
+        ("ints left at a return", of_void(2, b"\x06\x07\xb1")),
+        ("an int left below another", of_int(2, b"\x06\x07\xac")),
+        (
+            "instructions that are not reached",
+            of_void(0, b"\xb1\x06\xac\xb8\0\x0b\xb1\x04"),
+        ),
+        (
+            "a call with an argument that is not reached",
+            File {
+                callee: b"(I)V",
+                ..of_void(0, b"\xb1\xb8\0\x0b")
+            },
+        ),
+    ];
+    for (label, file) in &cases {
+        let bytes = bytes_of(rt.alloc(), file)?;
+        assert!(rt; bytes.len() < 1000);
+        let class = read_class(rt.alloc(), &bytes)?;
+        assert_eq!(rt; class.methods.len(), 1, "{label}");
+        for method in class.methods.as_slice() {
+            assert_eq!(rt; method.desc.as_slice(), file.desc, "{label}");
+            assert!(rt; method.code.is_some(), "{label}");
+            if let Some(code) = &method.code {
+                assert_eq!(rt; code.max_stack, file.method.max_stack, "{label}");
+                assert_eq!(rt; code.code.as_slice(), file.method.code, "{label}");
+            }
+        }
+    }
+    Ok(())
+}
+
+#[test]
+fn other_codes(rt: HostRuntime) -> Result<(), Fail> {
+    let cases = [
+        ("no code", of_void(0, b"")),
+        ("no return", of_void(1, b"\x03")),
+        (
+            "no return behind a call",
+            File {
+                callee: b"()V",
+                ..of_void(0, b"\xb8\0\x0b")
+            },
+        ),
+        ("no int to return", of_int(1, b"\xac")),
+        ("an int where none is returned", of_void(1, b"\x06\xac")),
+        ("no int where one is returned", of_int(0, b"\xb1")),
+        ("an int and no room", of_int(0, b"\x06\xac")),
+        ("two ints and room for one", of_void(1, b"\x06\x07\xb1")),
+        ("a call and no room", of_int(0, b"\xb8\0\x0b\xac")),
+        ("a call behind an int", of_void(1, b"\x06\xb8\0\x0b\xb1")),
+        ("a call of no method", of_void(1, b"\xb8\0\x0a\xb1")),
+        ("a call of place 0", of_void(1, b"\xb8\0\0\xb1")),
+        ("a call behind the pool", of_void(1, b"\xb8\x01\x0b\xb1")),
+        (
+            "a call of no method that is not reached",
+            of_void(0, b"\xb1\xb8\0\x0a"),
+        ),
+        (
+            "a call with an argument",
+            File {
+                callee: b"(I)V",
+                ..of_void(1, b"\x06\xb8\0\x0b\xb1")
+            },
+        ),
+        ("nop", of_void(0, b"\0\xb1")),
+        ("nop that is not reached", of_void(0, b"\xb1\0")),
+        ("bipush", of_void(1, b"\x10\x05\xb1")),
+        ("bipush that is not reached", of_void(0, b"\xb1\x10\x05")),
+        ("a cut call", of_void(1, b"\xb8\0")),
+        ("a cut call that is not reached", of_void(0, b"\xb1\xb8\0")),
+        ("a call's first byte", of_void(0, b"\xb1\xb8")),
+    ];
+    for (label, file) in &cases {
+        let bytes = bytes_of(rt.alloc(), file)?;
+        assert!(rt; is_unbuilt(&rt, &bytes), "{label}");
+    }
+    Ok(())
+}
+
+#[test]
+fn instructions(rt: HostRuntime) -> Result<(), Fail> {
+    let found = operations(rt.alloc(), b"\x02\x08\xb8\x01\x02\xac\xb1")?;
+    let wanted = [
+        (0, Operation::IntConstant(-1)),
+        (1, Operation::IntConstant(5)),
+        (2, Operation::InvokeStatic(258)),
+        (5, Operation::IntReturn),
+        (6, Operation::Return),
+    ];
+    assert!(rt; found.is_some());
+    if let Some(found) = found {
+        assert_eq!(rt; found.len(), wanted.len());
+        for (placed, (pc, operation)) in found.iter().zip(&wanted) {
+            assert_eq!(rt; placed.pc, *pc);
+            assert_eq!(rt; placed.operation, *operation);
+        }
     }
     Ok(())
 }

@@ -170,7 +170,7 @@ impl<'a> Reader<'a> {
 fn is_method_descriptor(desc: &[u8]) -> bool
     ensures { result ≡ is_method_descriptor desc.now }
 {
-    desc == b"()V".as_slice()
+    desc == b"()V".as_slice() || desc == b"()I".as_slice()
 }
 
 /// The codes among the attributes.
