@@ -4,3 +4,4 @@ pub mod Names
 pub mod Nodes
 pub mod Program
 pub mod WorldOf
+pub mod Assignments

@@ -17,5 +17,7 @@ pub data Node : Type 0 where
   Parameter : MemberName → ℕ → Node
   -- the method returns
   Returned : MemberName → Node
+  -- what the instruction at a place of a method gives
+  Result : MemberName → ℕ → Node
   -- the field is touched
   Touched : MemberName → Node

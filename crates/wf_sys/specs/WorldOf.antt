@@ -19,7 +19,7 @@ FailsToLink program place = ⊥
 pub record IsUnresolved (program : List ClassInfo) (x : Node → Flow) (place : Unresolved) : Type 0 where
   pub predicate : Node
   pub fails : FailsToLink program place
-  pub at_predicate : Predicate place.method place.pc predicate
+  pub at_predicate : Predicate program place.method place.pc predicate
   pub reached : IsNonEmpty (x predicate)
 
 -- a declared method that is entered

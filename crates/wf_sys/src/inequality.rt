@@ -11,6 +11,8 @@ pub enum Guard<N> {
 pub enum ValueOp<N> {
     /// A token that is set.
     Token,
+    /// An int constant.
+    IntIs(i32),
     /// The value of a node.
     Copy(N),
 }
