@@ -1,296 +1,149 @@
--- The least solution for a program of the first form, and its world: the root alone is entered.
-use Rattle.std.proofs.Common.{◌≡◌, ℕ, Bool, true, false, not, ◌&&◌, ◌||◌, cond, ◌⊎◌, List, [], ◌∷◌, Option, Some, None, refl, sym, ap, subst, ◌∙◌, inl, inr}
-use Rattle.std.specs.Prelude.{Contains, slice_get}
+-- The world of the least solution: what is read off it, where no type, field or place can be in it.
+use Rattle.std.proofs.Common.{◌≡◌, ℕ, Bool, true, false, List, [], ◌∷◌, length, if◌then◌else◌, refl, sym, subst, arith, inl, inr}
+use Rattle.std.specs.Prelude.{Contains}
 use Rattle.std.specs.declared.cmp.Ordering.{Ordering}
-use Rattle.std.specs.List.{list_any, list_all}
 use Rattle.std.specs.List.Sorted.{IsStrictlySortedBy}
-use Rattle.std.specs.Str.{bytes_eq}
-use Rattle.std.proofs.lemmas.Slice.Eq.{bytes_eq-Decides}
+use Rattle.std.proofs.lemmas.Bool.Decides.{Decides-eqb}
+use Rattle.std.proofs.lemmas.List.Elements.{Contains-append_left, Contains-append_right, Contains-append_cases}
 use Rattle.wf_base.specs.declared.class_info.ClassInfo.{ClassInfo}
-use Rattle.wf_base.specs.declared.class_info.CodeInfo.{CodeInfo}
+use Rattle.wf_base.specs.declared.class_info.FieldInfo.{FieldInfo}
 use Rattle.wf_base.specs.declared.class_info.MethodInfo.{MethodInfo}
 use Rattle.wf_base.specs.declared.member.MemberName.{MemberName}
-use Rattle.wf_base.specs.declared.world.World.{World}
-use Rattle.wf_base.specs.NameForm.{member_of}
-use Rattle.wf_base.specs.Names.{object_name}
-use Rattle.wf_base.specs.ClassFile.{is_interface}
-use Rattle.wf_classfile.specs.FirstForm.{is_first_form, is_class_of_form, is_method_of_form, is_super_of_form, has_code_of_form, is_code_of_form, is_kind_of_form, is_ordinary}
+use Rattle.wf_classfile.specs.FirstForm.{is_first_form}
 use Rattle.wf_sys.specs.declared.flow.Flow.{Flow}
-use Rattle.wf_sys.specs.declared.flow.Flow.TheVariants.{Empty, Set}
-use Rattle.wf_sys.specs.declared.inequality.Inequality.{Inequality}
-use Rattle.wf_sys.specs.Values.{◌⊑◌, IsNonEmpty}
-use Rattle.wf_sys.specs.System.{IsMet, Solves}
-use Rattle.wf_sys.specs.Names.{method_name, Lists}
-use Rattle.wf_sys.specs.Nodes.{Node, Inst, Start, Nothing, Initialized, Entered, Parameter, Returned, Touched}
-use Rattle.wf_sys.specs.Program.{first, Stands, Predicate, entry, return_opcode, token_where, Row, initializes_superclass, returns, Seed, start, entered, initialized}
-use Rattle.wf_sys.specs.WorldOf.{IsEntered, IsTouched, IsWorldOf, IsLeastWorld}
+use Rattle.wf_sys.specs.declared.flow.Flow.TheVariants.{Empty, Set, Is, Any}
+use Rattle.wf_sys.specs.Values.{is_empty, IsNonEmpty, HoldsType}
+use Rattle.wf_sys.specs.System.{Least}
+use Rattle.wf_sys.specs.Names.{method_name, DeclaresField, Lists, name_cmp, member_cmp, place_cmp}
+use Rattle.wf_sys.specs.Nodes.{Node, Inst, Entered}
+use Rattle.wf_sys.specs.Program.{Row, Seed}
+use Rattle.wf_sys.specs.WorldOf.{IsEntered, IsTouched, IsUnresolved, IsLeastWorld}
 use Rattle.world.specs.Form.{IsOfForm}
-use Rattle.world.proofs.ListLaws.{and_both, contains_head, contains_cases, contains_nothing, all_at, any_at, any_where}
+use Rattle.world.specs.Solution.{entered_among, entered_in}
+use Rattle.world.proofs.ListLaws.{and_both, contains_head, contains_tail, contains_cases, contains_nothing}
 
--- ---- the solution
+-- ---- the methods that are entered
 
-set_if : Bool → Flow
-set_if b = cond b Set Empty
+-- what the test on values says
+abbrev EmptyTest : Type 0
+EmptyTest = (v : Flow) → (is_empty v ≡ false → IsNonEmpty v) × (IsNonEmpty v → is_empty v ≡ false)
 
--- the two names are one
-same_member : MemberName → MemberName → Bool
-same_member a b = bytes_eq a.class b.class && (bytes_eq a.name b.name && bytes_eq a.desc b.desc)
+-- a method of a list that is entered
+record IsEnteredOf (x : Node → Flow) (class : ClassInfo) (methods : List MethodInfo) (name : MemberName) : Type 0 where
+  method : MethodInfo
+  there : Contains methods method
+  named : name ≡ method_name class method
+  entered : IsNonEmpty (x (Entered name))
 
--- whether there is a superclass, of this name
-super_is : List ℕ → Option (List ℕ) → Bool
-super_is super None = false
-super_is super (Some s) = bytes_eq s super
+module _ (test : EmptyTest) (x : Node → Flow) (class : ClassInfo) where
+  later : (m : MethodInfo) (methods : List MethodInfo) (name : MemberName) → IsEnteredOf x class methods name → IsEnteredOf x class (m ∷ methods) name
+  later m methods name e = record { method = e.method; there = contains_tail e.method m methods e.there; named = e.named; entered = e.entered }
 
--- a class of this name has that superclass
-has_super : List ℕ → List ℕ → ClassInfo → Bool
-has_super name super class = bytes_eq class.name name && super_is super class.superclass
-
--- the root's class and its superclass are initialized
-is_initialized : List ClassInfo → MemberName → List ℕ → Bool
-is_initialized classes root class = bytes_eq class root.class || list_any (has_super root.class class) classes
-
-solution : List ClassInfo → MemberName → Node → Flow
-solution classes root Inst = Empty
-solution classes root Start = Set
-solution classes root Nothing = Empty
-solution classes root (Initialized class) = set_if (is_initialized classes root class)
-solution classes root (Entered m) = set_if (same_member m root)
-solution classes root (Parameter m i) = Empty
-solution classes root (Returned m) = set_if (same_member m root)
-solution classes root (Touched f) = Empty
-
--- ---- tests
-
-or_left : (a b : Bool) → a ≡ true → (a || b) ≡ true
-or_left true b e = refl
-or_left false b e = absurd cc
-
-or_right : (a b : Bool) → b ≡ true → (a || b) ≡ true
-or_right true b e = refl
-or_right false b e = e
-
-or_cases : (a b : Bool) → (a || b) ≡ true → (a ≡ true) ⊎ (b ≡ true)
-or_cases true b e = inl refl
-or_cases false b e = inr e
-
-and_true : (a b : Bool) → a ≡ true → b ≡ true → (a && b) ≡ true
-and_true true b e f = f
-and_true false b e f = absurd cc
-
-not_true : (a : Bool) → not a ≡ true → a ≡ false
-not_true true e = absurd cc
-not_true false e = refl
-
-same_bytes : (a b : List ℕ) → bytes_eq a b ≡ true → a ≡ b
-same_bytes a b = (bytes_eq-Decides a b).0
-
-tested_bytes : (a b : List ℕ) → a ≡ b → bytes_eq a b ≡ true
-tested_bytes a b = (bytes_eq-Decides a b).1
-
-same_from_test : (a b : MemberName) → same_member a b ≡ true → a ≡ b
-unfolding same_member
-same_from_test a b e =
-    let outer = and_both (bytes_eq a.class b.class) (bytes_eq a.name b.name && bytes_eq a.desc b.desc) e in
-    let inner = and_both (bytes_eq a.name b.name) (bytes_eq a.desc b.desc) outer.1 in
-    let one : a ≡ member_of b.class a.name a.desc = ap (λ (c : List ℕ). member_of c a.name a.desc) (same_bytes a.class b.class outer.0) in
-    let two : member_of b.class a.name a.desc ≡ member_of b.class b.name a.desc = ap (λ (n : List ℕ). member_of b.class n a.desc) (same_bytes a.name b.name inner.0) in
-    let three : member_of b.class b.name a.desc ≡ b = ap (λ (d : List ℕ). member_of b.class b.name d) (same_bytes a.desc b.desc inner.1) in
-    one ∙ two ∙ three
-
-same_itself : (a : MemberName) → same_member a a ≡ true
-unfolding same_member
-same_itself a =
-    and_true (bytes_eq a.class a.class) _ (tested_bytes a.class a.class refl) (and_true (bytes_eq a.name a.name) _ (tested_bytes a.name a.name refl) (tested_bytes a.desc a.desc refl))
-
--- ---- values
-
-is_set : (b : Bool) → b ≡ true → IsNonEmpty (set_if b)
-unfolding set_if
-is_set true e = tt
-is_set false e = absurd cc
-
-from_set : (b : Bool) → IsNonEmpty (set_if b) → b ≡ true
-unfolding set_if
-from_set true h = refl
-from_set false h = absurd h
-
-set_below : (v : Flow) → IsNonEmpty v → Set ⊑ v
-set_below Empty h = h
-set_below Set h = tt
-
-from_below : (v : Flow) → Set ⊑ v → IsNonEmpty v
-from_below Empty h = h
-from_below Set h = tt
-
-if_below : (b : Bool) (v : Flow) → (b ≡ true → IsNonEmpty v) → set_if b ⊑ v
-unfolding set_if
-if_below true v h = set_below v (h refl)
-if_below false v h = tt
-
--- ---- what the form says
-
-form_of_class : (class : ClassInfo) → is_first_form class ≡ true → (is_interface class.flags ≡ false) × (is_super_of_form class.superclass ≡ true)
-form_of_class class e =
-    let whole = and_both (is_class_of_form class) (list_all is_method_of_form class.methods) e in
-    let a = and_both _ (is_ordinary class.name) whole.0 in
-    let b = and_both _ (is_super_of_form class.superclass) a.0 in
-    let c = and_both _ _ b.0 in
-    let d = and_both (not (is_interface class.flags)) _ c.0 in
-    (not_true (is_interface class.flags) d.0, b.1)
-
--- every superclass is java/lang/Object
-super_is_object : (class : ClassInfo) (super : List ℕ) → is_first_form class ≡ true → class.superclass ≡ Some super → super ≡ object_name
-super_is_object class super e is = same_bytes super object_name (subst (λ (o : Option (List ℕ)). is_super_of_form o ≡ true) is (form_of_class class e).1)
-
--- every method returns at once
-pub record ReturnsAtOnce (m : MethodInfo) : Type 0 where
-  pub code : CodeInfo
-  pub is : m.code ≡ Some code
-  pub bytes : code.code ≡ return_opcode ∷ []
-
-returns_at_once : (class : ClassInfo) (m : MethodInfo) → is_first_form class ≡ true → Contains class.methods m → ReturnsAtOnce m
-returns_at_once class m e there =
-    let whole = and_both (is_class_of_form class) (list_all is_method_of_form class.methods) e in
-    by_code m.code refl (all_at is_method_of_form class.methods m whole.1 there)
-  where
-    by_code : (o : Option CodeInfo) → m.code ≡ o → has_code_of_form m.flags m.name o ≡ true → ReturnsAtOnce m
-    by_code None is h = absurd cc
-    by_code (Some c) is h =
-        let both = and_both (is_code_of_form c) (is_kind_of_form m.flags m.name c) h in
-        let code = and_both _ (bytes_eq c.code (return_opcode ∷ [])) both.0 in
-        record { code = c; is = is; bytes = same_bytes c.code (return_opcode ∷ []) code.1 }
-
--- ---- it solves
-
-super_known : (class : ClassInfo) (super : List ℕ) → class.superclass ≡ Some super → super_is super class.superclass ≡ true
-unfolding super_is
-super_known class super is = rw is (tested_bytes super super refl)
-
-super_found : (o : Option (List ℕ)) (super : List ℕ) → super_is super o ≡ true → o ≡ Some super
-unfolding super_is
-super_found None super e = absurd cc
-super_found (Some s) super e = ap Some (same_bytes s super e)
-
-initializes : (classes : List ClassInfo) (root : MemberName) (class : ClassInfo) (super : List ℕ) → IsOfForm classes root → Contains classes class → class.superclass ≡ Some super
-    → is_initialized classes root class.name ≡ true → is_initialized classes root super ≡ true
-unfolding is_initialized has_super
-initializes classes root class super form there is e =
-    or_right (bytes_eq super root.class) (list_any (has_super root.class super) classes) (
-    elim (or_cases (bytes_eq class.name root.class) (list_any (has_super root.class class.name) classes) e) [
-      | inl own ↦ any_at (has_super root.class super) classes class there (and_true (bytes_eq class.name root.class) (super_is super class.superclass) own (super_known class super is))
-      | inr other ↦
-          let d = any_where (has_super root.class class.name) classes other in
-          let test = and_both (bytes_eq d.0.name root.class) (super_is class.name d.0.superclass) d.2 in
-          let object : class.name ≡ object_name = super_is_object d.0 class.name (form.form d.0 d.1) (super_found d.0.superclass class.name test.1) in
-          let same : class.name ≡ super = object ∙ sym (super_is_object class super (form.form class there) is) in
-          subst (λ (s : List ℕ). list_any (has_super root.class s) classes ≡ true) same other
-    ])
-
--- what enables a place of a method enables its return
-flows : (classes : List ClassInfo) (root m : MemberName) (pc : ℕ) (node : Node) → Predicate m pc node → IsNonEmpty (solution classes root node) → IsNonEmpty (solution classes root (Returned m))
-unfolding solution
-flows classes root m _ _ entry h = h
-
-meets : (classes : List ClassInfo) (root : MemberName) → IsOfForm classes root → (q : Inequality Node) → Row classes q → IsMet q (solution classes root)
-unfolding solution
-meets classes root form _ (initializes_superclass class super there no_interface is) =
-    λ guard. set_below _ (is_set (is_initialized classes root super) (initializes classes root class super form there is (from_set (is_initialized classes root class.name) guard)))
-meets classes root form _ (returns class method code pc predicate there declared is stands at) = λ guard. set_below _ (flows classes root (method_name class method) pc predicate at guard)
-
-above : (classes : List ClassInfo) (root : MemberName) (n : Node) (v : Flow) → Seed root n v → v ⊑ solution classes root n
-unfolding solution is_initialized
-above classes root _ _ start = tt
-above classes root _ _ entered = set_below _ (is_set _ (same_itself root))
-above classes root _ _ initialized = set_below _ (is_set _ (or_left (bytes_eq root.class root.class) _ (tested_bytes root.class root.class refl)))
-
-solves : (classes : List ClassInfo) (root : MemberName) → IsOfForm classes root → Solves (Row classes) (Seed root) (solution classes root)
-solves classes root form = record { above = above classes root; meets = meets classes root form }
-
--- ---- it is the least
-
-module _ (classes : List ClassInfo) (root : MemberName) (form : IsOfForm classes root) (y : Node → Flow) (solved : Solves (Row classes) (Seed root) y) where
-  root_entered : IsNonEmpty (y (Entered root))
-  root_entered = from_below (y (Entered root)) (solved.above (Entered root) Set entered)
-
-  own_initialized : IsNonEmpty (y (Initialized root.class))
-  own_initialized = from_below (y (Initialized root.class)) (solved.above (Initialized root.class) Set initialized)
-
-  class_initialized : (class : List ℕ) → is_initialized classes root class ≡ true → IsNonEmpty (y (Initialized class))
-  unfolding is_initialized has_super
-  class_initialized class e =
-      elim (or_cases (bytes_eq class root.class) (list_any (has_super root.class class) classes) e) [
-        | inl own ↦ subst (λ (c : List ℕ). IsNonEmpty (y (Initialized c))) (sym (same_bytes class root.class own)) own_initialized
-        | inr other ↦
-            let d = any_where (has_super root.class class) classes other in
-            let test = and_both (bytes_eq d.0.name root.class) (super_is class d.0.superclass) d.2 in
-            let row = initializes_superclass d.0 class d.1 (form_of_class d.0 (form.form d.0 d.1)).0 (super_found d.0.superclass class test.1) in
-            let guard : IsNonEmpty (y (Initialized d.0.name)) = subst (λ (c : List ℕ). IsNonEmpty (y (Initialized c))) (sym (same_bytes d.0.name root.class test.0)) own_initialized in
-            from_below (y (Initialized class)) (solved.meets (token_where (Initialized d.0.name) (Initialized class)) row guard)
+  among_entered : (methods : List MethodInfo) (name : MemberName) → Contains (entered_among x class methods) name → IsEnteredOf x class methods name
+  among_entered [] name h = absurd (contains_nothing name h)
+  among_entered (m ∷ methods) name h = go (λ h. among_entered methods name h) (is_empty (x (Entered (method_name class m)))) refl h
+    where
+      go : (Contains (entered_among x class methods) name → IsEnteredOf x class methods name) → (b : Bool) → is_empty (x (Entered (method_name class m))) ≡ b
+          → Contains (if b then entered_among x class methods else method_name class m ∷ entered_among x class methods) name → IsEnteredOf x class (m ∷ methods) name
+      go rest true is h = later m methods name (rest h)
+      go rest false is h = elim (contains_cases name (method_name class m) (entered_among x class methods) h) [
+        | inl same ↦ record {
+          method = m;
+          there = contains_head m methods;
+          named = sym same;
+          entered = subst (λ (n : MemberName). IsNonEmpty (x (Entered n))) same ((test (x (Entered (method_name class m)))).0 is);
+        }
+        | inr behind ↦ later m methods name (rest behind)
       ]
 
-  root_returned : IsNonEmpty (y (Returned root))
-  root_returned =
-      let d = form.declared in
-      let code = returns_at_once d.class d.method (form.form d.class d.class_there) d.method_there in
-      let stands : Stands code.code 0 return_opcode = record { start = first; is = ap (λ (bytes : List ℕ). slice_get bytes 0) code.bytes } in
-      let row = returns d.class d.method code.code 0 (Entered (method_name d.class d.method)) d.class_there d.method_there code.is stands entry in
-      let guard : IsNonEmpty (y (Entered (method_name d.class d.method))) = subst (λ (m : MemberName). IsNonEmpty (y (Entered m))) d.named root_entered in
-      subst (λ (m : MemberName). IsNonEmpty (y (Returned m))) (sym d.named) (from_below (y (Returned (method_name d.class d.method))) (solved.meets _ row guard))
+  entered_listed : (methods : List MethodInfo) (m : MethodInfo) → Contains methods m → IsNonEmpty (x (Entered (method_name class m))) → Contains (entered_among x class methods) (method_name class m)
+  entered_listed [] m there h = absurd (contains_nothing m there)
+  entered_listed (k ∷ methods) m there h = elim (contains_cases m k methods there) [
+    | inl same ↦ here (subst (λ (n : MethodInfo). IsNonEmpty (x (Entered (method_name class n)))) (sym same) h) same
+    | inr behind ↦ skip (is_empty (x (Entered (method_name class k)))) (entered_listed methods m behind h)
+  ]
+    where
+      here : IsNonEmpty (x (Entered (method_name class k))) → k ≡ m → Contains (entered_among x class (k ∷ methods)) (method_name class m)
+      here flows same = go (is_empty (x (Entered (method_name class k)))) ((test (x (Entered (method_name class k)))).1 flows)
+        where
+          go : (b : Bool) → b ≡ false → Contains (if b then entered_among x class methods else method_name class k ∷ entered_among x class methods) (method_name class m)
+          go true e = absurd cc
+          go false e = subst (λ (n : MethodInfo). Contains (method_name class k ∷ entered_among x class methods) (method_name class n)) same (contains_head (method_name class k) (entered_among x class methods))
 
-  least : (n : Node) → solution classes root n ⊑ y n
-  unfolding solution
-  least Inst = tt
-  least Start = solved.above Start Set start
-  least Nothing = tt
-  least (Initialized class) = if_below (is_initialized classes root class) (y (Initialized class)) (class_initialized class)
-  least (Entered m) = if_below (same_member m root) (y (Entered m)) (λ e. subst (λ (k : MemberName). IsNonEmpty (y (Entered k))) (sym (same_from_test m root e)) root_entered)
-  least (Parameter m i) = tt
-  least (Returned m) = if_below (same_member m root) (y (Returned m)) (λ e. subst (λ (k : MemberName). IsNonEmpty (y (Returned k))) (sym (same_from_test m root e)) root_returned)
-  least (Touched f) = tt
+      skip : (b : Bool) → Contains (entered_among x class methods) (method_name class m) → Contains (if b then entered_among x class methods else method_name class k ∷ entered_among x class methods) (method_name class m)
+      skip true c = c
+      skip false c = contains_tail (method_name class m) (method_name class k) (entered_among x class methods) c
 
--- ---- its world
+in_classes : (test : EmptyTest) (x : Node → Flow) (classes : List ClassInfo) (name : MemberName) → Contains (entered_in x classes) name → IsEntered classes x name
+in_classes test x [] name h = absurd (contains_nothing name h)
+in_classes test x (class ∷ classes) name h = elim (Contains-append_cases (entered_among x class class.methods) (entered_in x classes) name h) [
+  | inl own ↦
+      let e = among_entered test x class class.methods name own in
+      record { declared = record { class = class; method = e.method; class_there = contains_head class classes; method_there = e.there; named = e.named }; entered = e.entered }
+  | inr other ↦
+      let e = in_classes test x classes name other in
+      let d = e.declared in
+      record { declared = record { class = d.class; method = d.method; class_there = contains_tail d.class class classes d.class_there; method_there = d.method_there; named = d.named }; entered = e.entered }
+]
 
--- the world in which the root alone is entered
-abbrev pub world_of_root : MemberName → World
-world_of_root root = record { types = []; methods = root ∷ []; fields = []; unresolved = [] }
+classes_in : (test : EmptyTest) (x : Node → Flow) (classes : List ClassInfo) (class : ClassInfo) (m : MethodInfo) → Contains classes class → Contains class.methods m → IsNonEmpty (x (Entered (method_name class m)))
+    → Contains (entered_in x classes) (method_name class m)
+classes_in test x [] class m there own h = absurd (contains_nothing class there)
+classes_in test x (k ∷ classes) class m there own h = elim (contains_cases class k classes there) [
+  | inl same ↦ Contains-append_left (entered_among x k k.methods) (entered_in x classes) (method_name class m)
+      (subst (λ (c : ClassInfo). Contains (entered_among x c c.methods) (method_name class m)) (sym same) (entered_listed test x class class.methods m own h))
+  | inr behind ↦ Contains-append_right (entered_among x k k.methods) (entered_in x classes) (method_name class m) (classes_in test x classes class m behind own h)
+]
+
+entered_all : (test : EmptyTest) (x : Node → Flow) (classes : List ClassInfo) (name : MemberName) → IsEntered classes x name → Contains (entered_in x classes) name
+entered_all test x classes name e =
+    let d = e.declared in
+    subst (λ (n : MemberName). Contains (entered_in x classes) n) (sym d.named)
+    (classes_in test x classes d.class d.method d.class_there d.method_there (subst (λ (n : MemberName). IsNonEmpty (x (Entered n))) d.named e.entered))
+
+-- ---- what can't be in it
 
 nothing_listed : {X : Type 0} (cmp : X → X → Ordering) (P : X → Type 0) → ((x : X) → P x → ⊥) → Lists cmp P []
 unfolding IsStrictlySortedBy
 nothing_listed cmp P none = record { in_order = tt; only = λ x h. absurd (contains_nothing x h); all = λ x h. absurd (none x h) }
 
-one_listed : {X : Type 0} (cmp : X → X → Ordering) (P : X → Type 0) (a : X) → P a → ((x : X) → P x → x ≡ a) → Lists cmp P (a ∷ [])
-unfolding IsStrictlySortedBy
-one_listed cmp P a there alone = record {
-  in_order = (tt, tt);
-  only = λ x h. elim (contains_cases x a [] h) [ inl same ↦ subst P same there | inr later ↦ absurd (contains_nothing x later) ];
-  all = λ x h. subst (λ y. Contains (a ∷ []) y) (sym (alone x h)) (contains_head a []);
-}
+no_type : (v : Flow) (name : List ℕ) → HoldsType v name → ⊥
+no_type Empty name h = h
+no_type Set name h = h
+no_type (Is c) name h = h
+no_type Any name h = h
 
-entered_root : (classes : List ClassInfo) (root : MemberName) → IsOfForm classes root → IsEntered classes (solution classes root) root
-unfolding solution
-entered_root classes root form = record { declared = form.declared; entered = is_set (same_member root root) (same_itself root) }
+empty_of_length : {X : Type 0} (xs : List X) → length xs ≡ 0 → xs ≡ []
+empty_of_length [] e = refl
+empty_of_length (x ∷ xs) e = absurd (omega (arith, e))
 
-entered_alone : (classes : List ClassInfo) (root m : MemberName) → IsEntered classes (solution classes root) m → m ≡ root
-unfolding solution
-entered_alone classes root m h = same_from_test m root (from_set (same_member m root) h.entered)
+no_fields : (class : ClassInfo) → is_first_form class ≡ true → class.fields ≡ []
+no_fields class form =
+    let whole = and_both _ _ form in
+    let a = and_both _ _ whole.0 in
+    let b = and_both _ _ a.0 in
+    let c = and_both _ _ b.0 in
+    empty_of_length class.fields ((Decides-eqb (length class.fields) 0).0 c.1)
 
-none_touched : (classes : List ClassInfo) (root f : MemberName) → IsTouched classes (solution classes root) f → ⊥
-unfolding solution
-none_touched classes root f h = h.touched
+no_field : (classes : List ClassInfo) (root : MemberName) → IsOfForm classes root → (name : MemberName) → DeclaresField classes name → ⊥
+no_field classes root form name d = contains_nothing d.field (subst (λ (fs : List FieldInfo). Contains fs d.field) (no_fields d.class (form.form d.class d.class_there)) d.field_there)
 
-world_is : (classes : List ClassInfo) (root : MemberName) → IsOfForm classes root → IsWorldOf classes (solution classes root) (world_of_root root)
-unfolding solution
-world_is classes root form = record {
-  types = nothing_listed _ _ (λ t h. h);
-  methods = one_listed _ _ root (entered_root classes root form) (entered_alone classes root);
-  fields = nothing_listed _ _ (none_touched classes root);
-  unresolved = nothing_listed _ _ (λ u h. h.fails);
-}
+-- ---- the world
 
--- the world of the least solution
-pub least_world : (classes : List ClassInfo) (root : MemberName) → IsOfForm classes root → IsLeastWorld classes root (world_of_root root)
-least_world classes root form = record {
-  solution = solution classes root;
-  least = record { solves = solves classes root form; least = least classes root form };
-  world_of = world_is classes root form;
+pub least_world : (classes : List ClassInfo) (root : MemberName) → IsOfForm classes root → EmptyTest → (x : Node → Flow) → Least (Row classes) (Seed root) x
+    → (entered methods : List MemberName) → entered ≡ entered_in x classes → Lists member_cmp (Contains entered) methods
+    → IsLeastWorld classes root (record { types = []; methods = methods; fields = []; unresolved = [] })
+least_world classes root form test x least entered methods is l = record {
+  solution = x;
+  least = least;
+  world_of = record {
+    types = nothing_listed name_cmp (HoldsType (x Inst)) (no_type (x Inst));
+    methods = record {
+      in_order = l.in_order;
+      only = λ m h. in_classes test x classes m (subst (λ (ms : List MemberName). Contains ms m) is (l.only m h));
+      all = λ m e. l.all m (subst (λ (ms : List MemberName). Contains ms m) (sym is) (entered_all test x classes m e));
+    };
+    fields = nothing_listed member_cmp (IsTouched classes x) (λ f t. no_field classes root form f t.declared);
+    unresolved = nothing_listed place_cmp (IsUnresolved classes x) (λ u h. h.fails);
+  };
 }

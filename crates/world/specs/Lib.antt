@@ -6,3 +6,9 @@ pub mod Walk
 pub mod Load
 pub mod Output
 pub mod Outcome
+pub mod Nodes
+pub mod Rows
+pub mod Calls
+pub mod Solution
+pub mod Passes
+pub mod Statics

@@ -12,8 +12,9 @@ use Rattle.wf_classfile.specs.FirstForm.{first_form_of}
 use Rattle.wf_io.specs.declared.tree.MemFile.{MemFile}
 use Rattle.wf_io.specs.Tree.{content}
 use Rattle.wf_sys.specs.Names.{method_name}
-use Rattle.world.specs.declared.limits.TheConstants.{MAX_FILE_BYTES, MAX_BYTES, MAX_TYPES, MAX_METHODS}
+use Rattle.world.specs.declared.limits.TheConstants.{MAX_FILE_BYTES, MAX_BYTES, MAX_TYPES, MAX_METHODS, MAX_NODES}
 use Rattle.world.specs.declared.load.ReadSoFar.{ReadSoFar}
+use Rattle.world.specs.Nodes.{nodes_of}
 use Rattle.world.specs.Walk.{each, path_in}
 
 -- the path at which a class has to stand
@@ -79,7 +80,8 @@ abbrev pub methods_in : List ClassInfo → ℕ
 methods_in [] = 0
 methods_in (class ∷ classes) = length class.methods + methods_in classes
 
--- No limit of a program is passed. In this form the fields are none, and the nodes and value words are far
--- fewer than their limits where the files and methods are within theirs.
+-- No limit of a program is passed. In this form the fields are none, and the value words are no more than
+-- the nodes, which have the lower limit.
 abbrev pub is_within_limits : List ClassInfo → Bool
-is_within_limits classes = not (nat_lt MAX_TYPES (count_by is_concrete classes)) && not (nat_lt MAX_METHODS (methods_in classes))
+is_within_limits classes =
+    not (nat_lt MAX_TYPES (count_by is_concrete classes)) && not (nat_lt MAX_METHODS (methods_in classes)) && not (nat_lt MAX_NODES (length (nodes_of classes)))

@@ -8,6 +8,7 @@ use Rattle.world.specs.declared.limits.TheConstants.{MAX_FILE_BYTES}
 use Rattle.world.specs.declared.fault.RunFault.{RunFault}
 use Rattle.world.specs.declared.fault.RunFault.TheVariants.{Unbuilt, ReadFault, WriteFault, NoMemory}
 use Rattle.world.specs.declared.program.Program.{Program}
+use Rattle.world.specs.Calls.{calls_are_known}
 use Rattle.world.specs.Command.{IsCommand}
 use Rattle.world.specs.Walk.{noted_from}
 use Rattle.world.specs.Load.{classes_of, has_object, only_line, root_in, is_within_limits}
@@ -22,9 +23,12 @@ pub data Answer : Type 0 where
 abbrev pub within_limits : List ClassInfo → MemberName → Answer
 within_limits classes root = if is_within_limits classes then Analysed classes root else NotBuilt
 
+abbrev pub with_calls : List ClassInfo → MemberName → Answer
+with_calls classes root = if calls_are_known classes then within_limits classes root else NotBuilt
+
 abbrev pub with_root : List ClassInfo → Option MemberName → Answer
 with_root classes None = NotBuilt
-with_root classes (Some root) = within_limits classes root
+with_root classes (Some root) = with_calls classes root
 
 -- the roots file: its length, and then its line
 abbrev pub with_roots : List ClassInfo → Option (List ℕ) → Answer
@@ -39,7 +43,8 @@ abbrev pub with_walked : List MemFile → List ℕ → List ℕ → Option (List
 with_walked files roots dir None = NotBuilt
 with_walked files roots dir (Some paths) = with_classes files roots (classes_of files dir paths)
 
--- The order: the walk; the noted files; java/lang/Object; the roots file; the limits of the program.
+-- The order: the walk; the noted files; java/lang/Object; the roots file; the calls; the limits of the
+-- program.
 abbrev pub answer_of : List MemFile → List ℕ → List ℕ → Answer
 answer_of files roots dir = with_walked files roots dir (noted_from files dir)
 

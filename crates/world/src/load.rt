@@ -1,10 +1,13 @@
-ghost use Rattle.std.specs.Prelude.{◌≡◌, ◌+◌, ◌≤◌, List, Some, length, IfOk, IfErr};
+ghost use Rattle.std.specs.Prelude.{◌≡◌, ◌+◌, ◌≤◌, true, List, Some, length, IfOk, IfErr};
 ghost use Rattle.wf_io.specs.declared.tree.MemFile.{MemFile};
 ghost use Rattle.wf_io.specs.Tree.{content};
+ghost use Rattle.wf_classfile.specs.FirstForm.{is_first_form};
 ghost use Rattle.world.specs.Faults.{IsOfTree, IsOwn, Gives, Reads, ReadsFile};
-ghost use Rattle.world.specs.Load.{class_path, add_class, take_file, read_file, classes_of, only_line, root_in};
+ghost use Rattle.world.specs.Form.{AllOfForm, IsOfForm};
+ghost use Rattle.world.specs.Load.{class_path, add_class, take_file, read_file, classes_of, has_object, only_line, root_in};
 ghost use Rattle.world.specs.Outcome.{NotBuilt, Analysed, with_root, with_roots, answer_of, Loads};
 
+use crate::calls::calls_are_known;
 use crate::command::Command;
 use crate::fault::RunFault;
 use crate::limits::{MAX_BYTES, MAX_FILE_BYTES};
@@ -49,6 +52,7 @@ fn class_path(alloc: Global, dir: &Text, name: &Text) -> Result<Text, AllocError
 }
 
 /// Adds the class of a file of so many bytes, where the file stands at the path of the class.
+#[tactic(auto, using(crate::proofs::FormKept::one_more_of_form))]
 fn add_class(
     alloc: Global,
     dir: &Text,
@@ -57,9 +61,11 @@ fn add_class(
     so_far: &mut ReadSoFar,
     class: ClassInfo,
 ) -> Result<(), RunFault>
-    requires { so_far.old.bytes + length bytes.now ≤ MAX_BYTES }
+    requires small { so_far.old.bytes + length bytes.now ≤ MAX_BYTES }
+    requires form { is_first_form class ≡ true }
     ensures added { Gives so_far.new result (add_class dir.now path.now bytes.now so_far.old class) }
     ensures small { so_far.new.bytes ≤ MAX_BYTES }
+    ensures form { AllOfForm so_far.old.classes → AllOfForm so_far.new.classes }
     ensures fault { IfErr result IsOwn }
 {
     let right = class_path(alloc, dir, &class.name)?;
@@ -87,6 +93,7 @@ fn take_file(
     requires within { length bytes.now ≤ MAX_FILE_BYTES }
     ensures taken { Gives so_far.new result (take_file dir.now path.now bytes.now so_far.old) }
     ensures small { so_far.new.bytes ≤ MAX_BYTES }
+    ensures form { AllOfForm so_far.old.classes → AllOfForm so_far.new.classes }
     ensures fault { IfErr result IsOwn }
 {
     if so_far.bytes + bytes.as_slice().len() as u32 > MAX_BYTES {
@@ -111,6 +118,7 @@ fn read_file<T: Tree>(
     ensures read { (files : List MemFile) → T.told tree.old ≡ Some files →
         Gives so_far.new result (read_file files dir.now path.now so_far.old) }
     ensures small { so_far.new.bytes ≤ MAX_BYTES }
+    ensures form { AllOfForm so_far.old.classes → AllOfForm so_far.new.classes }
     ensures same { T.told tree.new ≡ T.told tree.old }
     ensures grows { T.count tree.old ≤ T.count tree.new }
     ensures fault { IfErr result (IsOfTree (T.count tree.old) (T.count tree.new) (T.last_failed tree.new)) }
@@ -121,6 +129,7 @@ fn read_file<T: Tree>(
 
 /// Reads the noted files in their order, and gives their classes. Not built where a file isn't of the form,
 /// stands at another path than its class's, or passes a limit.
+#[tactic(auto, using(crate::proofs::FormKept::none_of_form))]
 pub fn read_classes<T: Tree>(
     alloc: Global,
     tree: &mut T,
@@ -129,6 +138,7 @@ pub fn read_classes<T: Tree>(
 ) -> Result<Items<ClassInfo>, RunFault>
     ensures classes { (files : List MemFile) → T.told tree.old ≡ Some files →
         Reads (classes_of files dir.now paths.now) result }
+    ensures form { IfOk result AllOfForm }
     ensures same { T.told tree.new ≡ T.told tree.old }
     ensures grows { T.count tree.old ≤ T.count tree.new }
     ensures fault { IfErr result (IsOfTree (T.count tree.old) (T.count tree.new) (T.last_failed tree.new)) }
@@ -144,15 +154,24 @@ pub fn read_classes<T: Tree>(
 }
 
 /// Makes a program of the classes and the root that the bytes of a roots file name.
+#[tactic(auto, using(crate::proofs::FormKept::root_declared))]
 fn rooted(alloc: Global, classes: Items<ClassInfo>, roots: &Text) -> Result<Program, RunFault>
+    requires form { AllOfForm classes }
+    requires object { has_object classes ≡ true }
     ensures program { Loads (with_root classes (root_in classes (only_line roots.now))) result }
+    ensures form { IfOk result (λ program. IsOfForm program.classes program.root) }
     ensures fault { IfErr result IsOwn }
 {
-    let root = root_in(alloc, classes.as_slice(), only_line(roots.as_slice()))?;
-    match root {
-        Some(root) if is_within_limits(classes.as_slice()) => Ok(Program { classes, root }),
-        _ => Err(RunFault::Unbuilt),
+    let Some(root) = root_in(alloc, classes.as_slice(), only_line(roots.as_slice()))? else {
+        return Err(RunFault::Unbuilt);
+    };
+    if !calls_are_known(alloc, classes.as_slice())? {
+        return Err(RunFault::Unbuilt);
     }
+    if !is_within_limits(alloc, classes.as_slice())? {
+        return Err(RunFault::Unbuilt);
+    }
+    Ok(Program { classes, root })
 }
 
 /// Reads the roots file, and makes the program.
@@ -162,8 +181,11 @@ fn read_roots<T: Tree>(
     roots: &Text,
     classes: Items<ClassInfo>,
 ) -> Result<Program, RunFault>
+    requires form { AllOfForm classes }
+    requires object { has_object classes ≡ true }
     ensures program { (files : List MemFile) → T.told tree.old ≡ Some files →
         Loads (with_roots classes (content files roots.now)) result }
+    ensures form { IfOk result (λ program. IsOfForm program.classes program.root) }
     ensures same { T.told tree.new ≡ T.told tree.old }
     ensures grows { T.count tree.old ≤ T.count tree.new }
     ensures fault { IfErr result (IsOfTree (T.count tree.old) (T.count tree.new) (T.last_failed tree.new)) }
@@ -173,11 +195,12 @@ fn read_roots<T: Tree>(
 }
 
 /// Reads the program that the command names: the walk of its directory, the noted files, and the roots
-/// file, in this order. Not built where any of them is of another form or passes a limit, or where no class
-/// is `java/lang/Object`.
+/// file, in this order. Not built where any of them is of another form or passes a limit, where no class
+/// is `java/lang/Object`, or where a call names no static method that the named class itself declares.
 pub fn load<T: Tree>(alloc: Global, tree: &mut T, command: &Command) -> Result<Program, RunFault>
     ensures program { (files : List MemFile) → T.told tree.old ≡ Some files →
         Loads (answer_of files command.now.roots command.now.dir) result }
+    ensures form { IfOk result (λ program. IsOfForm program.classes program.root) }
     ensures same { T.told tree.new ≡ T.told tree.old }
     ensures grows { T.count tree.old ≤ T.count tree.new }
     ensures fault { IfErr result (IsOfTree (T.count tree.old) (T.count tree.new) (T.last_failed tree.new)) }

@@ -2,13 +2,15 @@ ghost use Rattle.std.specs.Prelude.{◌≡◌, ◌++◌, ◌<◌, List, Some, no
 ghost use Rattle.std.specs.Str.{bytes_eq};
 ghost use Rattle.wf_io.specs.declared.tree.MemFile.{MemFile};
 ghost use Rattle.wf_sys.specs.Names.{method_name};
-ghost use Rattle.wf_base.specs.ClassFile.{is_static};
+ghost use Rattle.wf_base.specs.Members.{named_by};
 ghost use Rattle.wf_base.specs.NameForm.{member_of};
 ghost use Rattle.world.specs.Load.{has_object, only_line, root_line, root_among, root_in, is_concrete, methods_in, is_within_limits};
 
 use crate::limits::{MAX_METHODS, MAX_TYPES};
+use crate::nodes::has_few_nodes;
 use std::alloc::{AllocError, Global};
-use wf_base::{ClassInfo, Items, MemberName, MethodInfo, Text, is_member_text};
+use wf_base::{ClassInfo, Items, MemberName, MemberRef, MethodInfo, is_member_text};
+use wf_classfile::is_static;
 
 /// The classes of a program, and the static method that is its root.
 #[derive(Debug, Drop)]
@@ -47,21 +49,15 @@ fn is_root_line(line: &[u8], class: &[u8], name: &[u8], desc: &[u8]) -> bool
     }
 }
 
-fn name_of(alloc: Global, class: &ClassInfo, method: &MethodInfo) -> Result<MemberName, AllocError>
-    ensures { IfOk result (λ name. name ≡ method_name class.now method.now) }
+/// The name of a method, borrowed.
+pub fn method_ref<'p>(class: &'p ClassInfo, method: &'p MethodInfo) -> MemberRef<'p>
+    ensures { named_by result ≡ method_name class.now method.now }
 {
-    Ok(MemberName {
-        class: Text::from_slice(alloc, class.name.as_slice())?,
-        name: Text::from_slice(alloc, method.name.as_slice())?,
-        desc: Text::from_slice(alloc, method.desc.as_slice())?,
-    })
-}
-
-/// Whether a method is static (JVMS table 4.6-A).
-fn is_static(flags: u16) -> bool
-    ensures { result ≡ is_static flags }
-{
-    flags & 0x0008 != 0
+    MemberRef {
+        class: class.name.as_slice(),
+        name: method.name.as_slice(),
+        desc: method.desc.as_slice(),
+    }
 }
 
 /// The static method of a class that the line names.
@@ -80,7 +76,7 @@ fn root_among(
             method.desc.as_slice(),
         );
         if is_static(method.flags) && named {
-            return Ok(Some(name_of(alloc, class, method)?));
+            return Ok(Some(method_ref(class, method).to_name(alloc)?));
         }
     }
     Ok(None)
@@ -129,9 +125,12 @@ fn has_few_methods(classes: &[ClassInfo]) -> bool
     true
 }
 
-/// Whether the program passes no limit. Its fields, nodes and value words can't be too many in this form.
-pub fn is_within_limits(classes: &[ClassInfo]) -> bool
-    ensures { result ≡ is_within_limits classes.now }
+/// Whether the program passes no limit. Its fields and value words can't be too many in this form.
+pub fn is_within_limits(alloc: Global, classes: &[ClassInfo]) -> Result<bool, AllocError>
+    ensures { IfOk result (λ within. within ≡ is_within_limits classes.now) }
 {
-    has_few_types(classes) && has_few_methods(classes)
+    if !has_few_types(classes) || !has_few_methods(classes) {
+        return Ok(false);
+    }
+    has_few_nodes(alloc, classes)
 }

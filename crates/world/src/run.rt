@@ -1,4 +1,4 @@
-ghost use Rattle.std.specs.Prelude.{◌≡◌, ◌≢◌, ◌⊎◌, ◌≤◌, ◌++◌, ◌∷◌, [], List, ℕ, Option, Some, codes, IfOk, IfErr, IsErrOf};
+ghost use Rattle.std.specs.Prelude.{◌≡◌, ◌≢◌, ◌⊎◌, ◌≤◌, ◌++◌, List, ℕ, Option, Some, codes, IfOk, IfErr, IsErrOf};
 ghost use Rattle.wf_base.specs.declared.class_info.ClassInfo.{ClassInfo};
 ghost use Rattle.wf_base.specs.declared.member.MemberName.{MemberName};
 ghost use Rattle.wf_io.specs.declared.tree.MemFile.{MemFile};
@@ -6,49 +6,22 @@ ghost use Rattle.wf_base.specs.NameForm.{escaped};
 ghost use Rattle.wf_base.specs.Report.{line};
 ghost use Rattle.wf_io.specs.declared.tree.Call.{Call};
 ghost use Rattle.wf_io.specs.Faults.{Rose};
-ghost use Rattle.wf_sys.specs.WorldOf.{IsLeastWorld};
 ghost use Rattle.world.specs.Command.{words_of};
 ghost use Rattle.world.specs.Faults.{IsOfTree};
-ghost use Rattle.world.specs.Form.{IsOfForm};
 ghost use Rattle.world.specs.Outcome.{Answer, NotBuilt, Analysed, Outcome};
 ghost use Rattle.world.specs.Output.{IsCut, TellsFault, IsKnown, IsStatusOf};
 ghost use Rattle.world.specs.Run.{IsReport, Prints, PrintsPart, IsStatus};
 
 use crate::command::command_of;
 use crate::fault::RunFault;
+use crate::least::least_world;
 use crate::load::load;
 use crate::output::{tell, write_all};
-use crate::program::Program;
 use crate::report::report;
 use std::alloc::{AllocError, Global};
 use std::thread::Threads;
-use wf_base::{Items, MemberName, Text, World, name_text};
+use wf_base::{Text, name_text};
 use wf_io::{Sink, Tree};
-
-/// A list of one member.
-fn only(alloc: Global, member: MemberName) -> Result<Items<MemberName>, AllocError>
-    ensures { IfOk result (λ members. members ≡ member ∷ []) }
-{
-    let mut members = Items::new(alloc);
-    match members.push(member) {
-        Ok(()) => Ok(members),
-        Err(_) => Err(AllocError),
-    }
-}
-
-/// The world of the least solution for a program of the first form: nothing is called in it and nothing
-/// made, so the root alone is entered.
-fn least_world(alloc: Global, program: Program) -> Result<World, AllocError>
-    ensures { IfOk result (λ world. IsOfForm program.classes program.root → IsLeastWorld program.classes program.root world) }
-{
-    let methods = only(alloc, program.root)?;
-    Ok(World {
-        types: Items::new(alloc),
-        methods,
-        fields: Items::new(alloc),
-        unresolved: Items::new(alloc),
-    })
-}
 
 /// The report that the words ask for.
 fn analyse<T: Tree>(alloc: Global, words: &[Vec<u8>], tree: &mut T) -> Result<Text, RunFault>
@@ -62,7 +35,7 @@ fn analyse<T: Tree>(alloc: Global, words: &[Vec<u8>], tree: &mut T) -> Result<Te
 {
     let command = command_of(alloc, words)?;
     let program = load(alloc, tree, &command)?;
-    let world = least_world(alloc, program)?;
+    let world = least_world(alloc, &program)?;
     Ok(report(alloc, &world)?)
 }
 

@@ -1,5 +1,7 @@
 //! The rows of the top call over a tree and sinks in memory.
 
+mod path;
+
 use crate::run::world_run;
 use std::alloc::{AllocError, Global};
 use std::test::Fail;

@@ -1,6 +1,7 @@
 use Rattle.std.proofs.Common.{◌≡◌, ◌≤◌, List, Some, [], drop}
 use Rattle.wf_io.specs.declared.tree.MemFile.{MemFile}
 use Rattle.world.specs.declared.limits.TheConstants.{MAX_BYTES}
+use Rattle.world.specs.Form.{AllOfForm}
 use Rattle.world.specs.Walk.{each}
 use Rattle.world.specs.Load.{read_file}
 use Rattle.world.proofs.load.read_classes.Given as goal
@@ -13,4 +14,5 @@ invariant-loop-path g l = record {
   same : g.T.Tree.told l.tree ≡ g.T.Tree.told l.fn.tree;
   grows : g.T.Tree.count l.fn.tree ≤ g.T.Tree.count l.tree;
   small : l.so_far.bytes ≤ MAX_BYTES;
+  form : AllOfForm l.so_far.classes;
 }

@@ -4,7 +4,7 @@ use Rattle.world.specs.declared.fault.RunFault.{RunFault}
 use Rattle.world.specs.declared.fault.RunFault.TheVariants.{Unbuilt}
 use Rattle.world.specs.Command.{words_of}
 use Rattle.world.specs.Outcome.{Answer, answer_of, Outcome, no_command, command}
-use Rattle.world.proofs.OutcomeLaws.{analysed_form, refusal_due, passed_on}
+use Rattle.world.proofs.OutcomeLaws.{refusal_due, passed_on}
 use Rattle.world.proofs.run.analyse.Goals as goal
 
 pub returns-in_err-command-clause-unbuilt : goal.returns-in_err-command-clause-unbuilt
@@ -31,6 +31,6 @@ returns-clause-report g c = λ files told.
       root = c.in_ok-program.program.root;
       world = c.in_ok-world.world;
       outcome = subst (λ (a : Answer). Outcome files (words_of c.args.words.now) a) due (command found.roots found.dir c.in_ok-command.ensures.ok);
-      least = c.in_ok-world.ensures (analysed_form files found.roots found.dir c.in_ok-program.program.classes c.in_ok-program.program.root due);
+      least = c.in_ok-world.ensures;
       is = c.in_ok-report.ensures;
     }
