@@ -33,10 +33,13 @@ pub fn join_is_least()
     ensures least { (a b c : Flow) → a ⊑ c → b ⊑ c → join a b ⊑ c }
 {}
 
-/// Where each node's value rises, guards still hold and what is joined rises.
+/// Where each node's value rises, guards still hold and what is joined rises, over numbered nodes and over
+/// named ones.
 pub fn systems_are_monotone()
     ensures guards { (guard : Guard ℕ) (x y : ℕ → Flow) → IsBelow x y → GuardHolds guard x → GuardHolds guard y }
     ensures values { (value : ValueOp ℕ) (x y : ℕ → Flow) → IsBelow x y → value_in value x ⊑ value_in value y }
+    ensures named_guards { (guard : Guard Node) (x y : Node → Flow) → IsBelow x y → GuardHolds guard x → GuardHolds guard y }
+    ensures named_values { (value : ValueOp Node) (x y : Node → Flow) → IsBelow x y → value_in value x ⊑ value_in value y }
 {}
 
 /// A system has at most one least solution above its seeds, be it that of a program and a root, or one
