@@ -17,3 +17,4 @@ mod RowLaws
 mod FormLaws
 mod RowNodes
 mod StaticLaws
+mod MadeLaws

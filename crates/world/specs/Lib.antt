@@ -12,3 +12,4 @@ pub mod Calls
 pub mod Solution
 pub mod Passes
 pub mod Statics
+pub mod Made

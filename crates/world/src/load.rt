@@ -1,10 +1,12 @@
-ghost use Rattle.std.specs.Prelude.{◌≡◌, ◌+◌, ◌≤◌, true, List, Some, length, IfOk, IfErr};
+ghost use Rattle.std.specs.Prelude.{◌≡◌, ◌+◌, ◌≤◌, true, List, [], ◌∷◌, Some, length, IfOk, IfErr};
 ghost use Rattle.wf_io.specs.declared.tree.MemFile.{MemFile};
 ghost use Rattle.wf_io.specs.Tree.{content};
 ghost use Rattle.wf_classfile.specs.FirstForm.{is_first_form};
 ghost use Rattle.world.specs.Faults.{IsOfTree, IsOwn, Gives, Reads, ReadsFile};
 ghost use Rattle.world.specs.Form.{AllOfForm, IsOfForm};
 ghost use Rattle.world.specs.Load.{class_path, add_class, take_file, read_file, classes_of, has_object, only_line, root_in};
+ghost use Rattle.wf_io.specs.declared.tree.Call.TheVariants as call;
+ghost use Rattle.world.specs.Made.{IsOfCalls, file_calls, classes_calls, roots_calls, calls_of};
 ghost use Rattle.world.specs.Outcome.{NotBuilt, Analysed, with_root, with_roots, answer_of, Loads};
 
 use crate::calls::calls_are_known;
@@ -33,6 +35,7 @@ pub fn read_bytes<T: Tree>(alloc: Global, tree: &mut T, path: &Text) -> Result<T
     ensures same { T.told tree.new ≡ T.told tree.old }
     ensures grows { T.count tree.old ≤ T.count tree.new }
     ensures fault { IfErr result (IsOfTree (T.count tree.old) (T.count tree.new) (T.last_failed tree.new)) }
+    ensures made { IfErr result (IsOfCalls (call.Read path.now ∷ []) (T.last_failed tree.new)) }
 {
     match tree.read(alloc, path, MAX_FILE_BYTES) {
         Ok(bytes) => Ok(bytes),
@@ -122,6 +125,7 @@ fn read_file<T: Tree>(
     ensures same { T.told tree.new ≡ T.told tree.old }
     ensures grows { T.count tree.old ≤ T.count tree.new }
     ensures fault { IfErr result (IsOfTree (T.count tree.old) (T.count tree.new) (T.last_failed tree.new)) }
+    ensures made { IfErr result (IsOfCalls (file_calls path.now so_far.old) (T.last_failed tree.new)) }
 {
     let bytes = read_bytes(alloc, tree, path)?;
     take_file(alloc, dir, path, &bytes, so_far)
@@ -142,6 +146,8 @@ pub fn read_classes<T: Tree>(
     ensures same { T.told tree.new ≡ T.told tree.old }
     ensures grows { T.count tree.old ≤ T.count tree.new }
     ensures fault { IfErr result (IsOfTree (T.count tree.old) (T.count tree.new) (T.last_failed tree.new)) }
+    ensures made { (files : List MemFile) → T.told tree.old ≡ Some files →
+        IfErr result (IsOfCalls (classes_calls files dir.now paths.now) (T.last_failed tree.new)) }
 {
     let mut so_far = ReadSoFar {
         bytes: 0,
@@ -189,6 +195,7 @@ fn read_roots<T: Tree>(
     ensures same { T.told tree.new ≡ T.told tree.old }
     ensures grows { T.count tree.old ≤ T.count tree.new }
     ensures fault { IfErr result (IsOfTree (T.count tree.old) (T.count tree.new) (T.last_failed tree.new)) }
+    ensures made { IfErr result (IsOfCalls (roots_calls roots.now classes) (T.last_failed tree.new)) }
 {
     let bytes = read_bytes(alloc, tree, roots)?;
     rooted(alloc, classes, &bytes)
@@ -204,6 +211,8 @@ pub fn load<T: Tree>(alloc: Global, tree: &mut T, command: &Command) -> Result<P
     ensures same { T.told tree.new ≡ T.told tree.old }
     ensures grows { T.count tree.old ≤ T.count tree.new }
     ensures fault { IfErr result (IsOfTree (T.count tree.old) (T.count tree.new) (T.last_failed tree.new)) }
+    ensures made { (files : List MemFile) → T.told tree.old ≡ Some files →
+        IfErr result (IsOfCalls (calls_of files command.now.roots command.now.dir) (T.last_failed tree.new)) }
 {
     let paths = walk_from(alloc, tree, &command.dir)?;
     let classes = read_classes(alloc, tree, &command.dir, &paths)?;

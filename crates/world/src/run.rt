@@ -8,6 +8,7 @@ ghost use Rattle.wf_io.specs.declared.tree.Call.{Call};
 ghost use Rattle.wf_io.specs.Faults.{Rose};
 ghost use Rattle.world.specs.Command.{words_of};
 ghost use Rattle.world.specs.Faults.{IsOfTree};
+ghost use Rattle.world.specs.Made.{IsOfRun, IsCallOfRun};
 ghost use Rattle.world.specs.Outcome.{Answer, NotBuilt, Analysed, Outcome};
 ghost use Rattle.world.specs.Output.{IsCut, TellsFault, IsKnown, IsStatusOf};
 ghost use Rattle.world.specs.Run.{IsReport, Prints, PrintsPart, IsStatus};
@@ -32,6 +33,8 @@ fn analyse<T: Tree>(alloc: Global, words: &[Vec<u8>], tree: &mut T) -> Result<Te
     ensures same { T.told tree.new ≡ T.told tree.old }
     ensures grows { T.count tree.old ≤ T.count tree.new }
     ensures fault { IfErr result (IsOfTree (T.count tree.old) (T.count tree.new) (T.last_failed tree.new)) }
+    ensures made { (files : List MemFile) → T.told tree.old ≡ Some files →
+        IfErr result (IsOfRun files (words_of words.now) (T.last_failed tree.new)) }
 {
     let command = command_of(alloc, words)?;
     let program = load(alloc, tree, &command)?;
@@ -120,6 +123,8 @@ pub fn world_run<R: Threads + Sync, T: Tree, O: Sink, E: Sink>(
     ensures unbuilt { (files : List MemFile) → T.told tree.old ≡ Some files →
         result ≡ 10 → Outcome files (words_of words.now) NotBuilt }
     ensures read_fault { result ≡ 6 → Rose (T.count tree.old) (T.count tree.new) }
+    ensures failed_call { (files : List MemFile) → T.told tree.old ≡ Some files →
+        result ≡ 6 → IsCallOfRun files (words_of words.now) (T.last_failed tree.new) }
     ensures write_fault { result ≡ 7 → Rose (O.count out.old) (O.count out.new) }
     ensures cut { (files : List MemFile) (had : List ℕ) → T.told tree.old ≡ Some files → O.taken out.old ≡ Some had →
         result ≡ 7 → PrintsPart files (words_of words.now) had (O.taken out.new) }

@@ -1,5 +1,6 @@
 //! The rows of the top call over a tree and sinks in memory.
 
+mod limits;
 mod path;
 
 use crate::run::world_run;

@@ -1,8 +1,10 @@
-ghost use Rattle.std.specs.Prelude.{◌≡◌, ◌+◌, ◌-◌, ◌<◌, ◌≤◌, List, Some, true, false, length, IfOk, IfErr};
+ghost use Rattle.std.specs.Prelude.{◌≡◌, ◌+◌, ◌-◌, ◌<◌, ◌≤◌, List, [], ◌∷◌, Some, true, false, length, IfOk, IfErr};
 ghost use Rattle.wf_io.specs.declared.tree.MemFile.{MemFile};
 ghost use Rattle.wf_io.specs.Tree.{listing};
 ghost use Rattle.world.specs.Faults.{IsOfTree, IsOwn, Gives, NamesFault, ListsAtMost, Reads};
-ghost use Rattle.world.specs.Walk.{path_in, is_noted, note, visit, walk, noted_from};
+ghost use Rattle.wf_io.specs.declared.tree.Call.TheVariants as call;
+ghost use Rattle.world.specs.Made.{IsOfCalls, visit_calls, walk_calls};
+ghost use Rattle.world.specs.Walk.{path_in, is_noted, note, visit, walk, at_start, noted_from};
 
 use crate::fault::RunFault;
 use crate::limits::{MAX_DEPTH, MAX_ENTRIES, MAX_FILES};
@@ -58,6 +60,7 @@ fn entries_in<T: Tree>(
     ensures same { T.told tree.new ≡ T.told tree.old }
     ensures grows { T.count tree.old ≤ T.count tree.new }
     ensures fault { IfErr result (IsOfTree (T.count tree.old) (T.count tree.new) (T.last_failed tree.new)) }
+    ensures made { IfErr result (IsOfCalls (call.List dir.now ∷ []) (T.last_failed tree.new)) }
 {
     match tree.list(alloc, dir, most) {
         Ok(entries) => Ok(wf_io::sorted(entries)?),
@@ -100,6 +103,8 @@ fn visit<T: Tree>(
     ensures same { T.told tree.new ≡ T.told tree.old }
     ensures grows { T.count tree.old ≤ T.count tree.new }
     ensures fault { IfErr result (IsOfTree (T.count tree.old) (T.count tree.new) (T.last_failed tree.new)) }
+    ensures made { (files : List MemFile) → T.told tree.old ≡ Some files →
+        IfErr result (IsOfCalls (visit_calls top (walk_calls files depth false) dir.now entry.now walked.old) (T.last_failed tree.new)) }
 {
     if entry.is_dir {
         if top && entry.name.as_slice() == b"META-INF".as_slice() {
@@ -132,6 +137,8 @@ fn walk<T: Tree>(
     ensures same { T.told tree.new ≡ T.told tree.old }
     ensures grows { T.count tree.old ≤ T.count tree.new }
     ensures fault { IfErr result (IsOfTree (T.count tree.old) (T.count tree.new) (T.last_failed tree.new)) }
+    ensures made { (files : List MemFile) → T.told tree.old ≡ Some files →
+        IfErr result (IsOfCalls (walk_calls files depth top dir.now walked.old) (T.last_failed tree.new)) }
 {
     if depth == 0 {
         return Err(RunFault::Unbuilt);
@@ -154,6 +161,8 @@ pub fn walk_from<T: Tree>(alloc: Global, tree: &mut T, dir: &Text) -> Result<Ite
     ensures same { T.told tree.new ≡ T.told tree.old }
     ensures grows { T.count tree.old ≤ T.count tree.new }
     ensures fault { IfErr result (IsOfTree (T.count tree.old) (T.count tree.new) (T.last_failed tree.new)) }
+    ensures made { (files : List MemFile) → T.told tree.old ≡ Some files →
+        IfErr result (IsOfCalls (walk_calls files (MAX_DEPTH + 1) true dir.now at_start) (T.last_failed tree.new)) }
 {
     let mut walked = Walked {
         entries: 0,

@@ -4,13 +4,17 @@ use Rattle.world.specs.declared.limits.TheConstants.{MAX_BYTES}
 use Rattle.world.specs.Form.{AllOfForm}
 use Rattle.world.specs.Walk.{each}
 use Rattle.world.specs.Load.{read_file}
+use Rattle.world.specs.Made.{each_calls, file_calls, classes_calls}
+use Rattle.world.proofs.MadeLaws.{IsWithin}
 use Rattle.world.proofs.load.read_classes.Given as goal
 
--- reading the files that are left is reading all
+-- reading the files that are left is reading all, and their calls are among all
 abbrev pub invariant-loop-path : goal.invariant-loop-path
 invariant-loop-path g l = record {
   so_far : (files : List MemFile) → g.T.Tree.told l.fn.tree ≡ Some files
       → each (read_file files l.dir) (drop l.path-index l.path-items) l.so_far ≡ each (read_file files l.dir) l.paths (record { bytes = 0; classes = [] });
+  made : (files : List MemFile) → g.T.Tree.told l.fn.tree ≡ Some files
+      → IsWithin (each_calls file_calls (read_file files l.dir) (drop l.path-index l.path-items) l.so_far) (classes_calls files l.dir l.paths);
   same : g.T.Tree.told l.tree ≡ g.T.Tree.told l.fn.tree;
   grows : g.T.Tree.count l.fn.tree ≤ g.T.Tree.count l.tree;
   small : l.so_far.bytes ≤ MAX_BYTES;
