@@ -1,3 +1,14 @@
-mod Exact
 mod ClassLaws
+mod DescriptorLaws
+mod DescriptorValues
+pub mod Exact
+pub mod Loops
+mod PoolLaws
+mod PoolSteady
+mod Steady
+mod SteadyLaws
 mod Strip
+mod WritableLaws
+mod WritablePool
+mod WritingLaws
+mod Written

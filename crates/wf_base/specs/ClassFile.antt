@@ -1,20 +1,22 @@
--- Which bytes spell a class (JVMS 4.1 to 4.7), item by item. Written so far: the constants Utf8, Class,
--- Methodref and NameAndType; methods with one attribute, a Code; no interfaces, fields or other attributes.
-use Rattle.std.specs.Prelude.{ℕ, suc, ◌-◌, Bool, true, false, not, ◌&&◌, ◌||◌, List, [], ◌∷◌, ◌++◌, Option, Some, None, ◌==◌, nat_lt, nat_le, is_some, option_and_then, option_map, slice_get, codes, bit_and, if◌then◌else◌}
+-- Which bytes spell a class (JVMS 4.1 to 4.7), item by item.
+use Rattle.std.specs.Prelude.{◌≡◌, ℕ, suc, ◌-◌, Bool, true, false, not, ◌&&◌, ◌||◌, List, [], ◌∷◌, ◌++◌, Option, Some, None, ◌==◌, nat_lt, nat_le, is_some, option_and_then, option_map, slice_get, codes, bit_and, if◌then◌else◌}
+use Rattle.std.specs.Int.{w32, w64, cast_signed}
 use Rattle.std.specs.List.{list_all, list_any, filter_map}
 use Rattle.std.specs.Str.{bytes_eq}
 use Rattle.wf_base.specs.declared.class_info.ClassInfo.{ClassInfo}
 use Rattle.wf_base.specs.declared.class_info.CodeInfo.{CodeInfo}
+use Rattle.wf_base.specs.declared.class_info.FieldInfo.{FieldInfo}
 use Rattle.wf_base.specs.declared.class_info.Handler.{Handler}
 use Rattle.wf_base.specs.declared.class_info.MethodInfo.{MethodInfo}
 use Rattle.wf_base.specs.declared.class_info.PoolEntry.{PoolEntry}
 use Rattle.wf_base.specs.declared.class_info.PoolEntry.TheVariants.{Unusable, Utf8, Integer, Float, Long, Double, Class, Str, Field, Method, InterfaceMethod, NameType, Handle, MethodKind, Dynamic}
-use Rattle.wf_base.specs.Grammar.{U1, U2, U4, Run, Is, Then, Where, Given, Choice, Inside, Counted, ManyOn, NotWritten}
+use Rattle.wf_base.specs.Descriptors.{IsFieldDescriptor, IsMethodDescriptor}
+use Rattle.wf_base.specs.Grammar.{U1, U2, U4, U8, Run, Is, Then, Where, That, Given, Choice, Inside, Counted, ManyOn, CountedOn, Never}
 use Rattle.wf_base.specs.declared.member.MemberName.{MemberName}
 use Rattle.wf_base.specs.NameForm.{member_of}
-use Rattle.wf_base.specs.Names.{object_name, is_class_name, is_method_name}
+use Rattle.wf_base.specs.Names.{object_name, is_class_name, is_field_name, is_method_name}
 
--- whether a flag is set (JVMS tables 4.1-A and 4.6-A)
+-- whether a flag is set (JVMS tables 4.1-A, 4.5-A and 4.6-A)
 abbrev pub has_flag : ℕ → ℕ → Bool
 has_flag flags flag = not (bit_and flags flag == 0)
 
@@ -37,21 +39,37 @@ is_text_byte b = not (b == 0) && nat_lt b 0xF0
 abbrev pub TextOf : ℕ → List ℕ → List ℕ → Type 0
 TextOf n = Then (Run n) (λ text. Where (list_all is_text_byte text) (Is text))
 
--- what follows a tag, one case for each tag
-pub data EntryAs : ℕ → List ℕ → PoolEntry → Type 0 where
-  a_text : (bytes : List ℕ) (e : PoolEntry) → Then U2 (λ n. Then (TextOf n) (λ text. Is (Utf8 text))) bytes e → EntryAs 1 bytes e
-  a_class : (bytes : List ℕ) (e : PoolEntry) → Then U2 (λ name. Is (Class name)) bytes e → EntryAs 7 bytes e
-  a_method : (bytes : List ℕ) (e : PoolEntry) → Then U2 (λ class. Then U2 (λ member. Is (Method class member))) bytes e → EntryAs 10 bytes e
-  a_name_type : (bytes : List ℕ) (e : PoolEntry) → Then U2 (λ name. Then U2 (λ desc. Is (NameType name desc))) bytes e → EntryAs 12 bytes e
+-- two places of the pool
+abbrev pub TwoPlaces : (ℕ → ℕ → PoolEntry) → List ℕ → PoolEntry → Type 0
+TwoPlaces entry = Then U2 (λ first. Then U2 (λ second. Is (entry first second)))
 
--- a constant that takes one place
-abbrev pub Entry : List ℕ → PoolEntry → Type 0
-Entry = Then U1 EntryAs
+-- what follows the tag of a constant that takes one place (JVMS table 4.4-A)
+abbrev pub NarrowAs : ℕ → List ℕ → PoolEntry → Type 0
+NarrowAs tag =
+    Choice (tag == 1) (Then U2 (λ n. Then (TextOf n) (λ text. Is (Utf8 text)))) (
+    Choice (tag == 3) (Then U4 (λ n. Is (Integer (cast_signed w32 n)))) (
+    Choice (tag == 4) (Then U4 (λ bits. Is (Float bits))) (
+    Choice (tag == 7) (Then U2 (λ name. Is (Class name))) (
+    Choice (tag == 8) (Then U2 (λ text. Is (Str text))) (
+    Choice (tag == 9) (TwoPlaces Field) (
+    Choice (tag == 10) (TwoPlaces Method) (
+    Choice (tag == 11) (TwoPlaces InterfaceMethod) (
+    Choice (tag == 12) (TwoPlaces NameType) (
+    Choice (tag == 15) (Then U1 (λ kind. Then U2 (λ member. Is (Handle kind member)))) (
+    Choice (tag == 16) (Then U2 (λ desc. Is (MethodKind desc))) (
+    Choice (tag == 18) (TwoPlaces Dynamic) Never)))))))))))
 
--- constants that take n places
+-- the same of one that takes two places (JVMS 4.4.5)
+abbrev pub WideAs : ℕ → List ℕ → PoolEntry → Type 0
+WideAs tag =
+    Choice (tag == 5) (Then U8 (λ n. Is (Long (cast_signed w64 n)))) (
+    Choice (tag == 6) (Then U8 (λ bits. Is (Double bits))) Never)
+
+-- constants that take n places; the second place of a wide one is unusable
 pub data Entries : ℕ → List ℕ → List PoolEntry → Type 0 where
   no_more : Entries 0 [] []
-  narrow : (n : ℕ) (first rest : List ℕ) (e : PoolEntry) (es : List PoolEntry) → Entry first e → Entries n rest es → Entries (suc n) (first ++ rest) (e ∷ es)
+  narrow : (n : ℕ) (first rest : List ℕ) (e : PoolEntry) (es : List PoolEntry) → Then U1 NarrowAs first e → Entries n rest es → Entries (suc n) (first ++ rest) (e ∷ es)
+  wide : (n : ℕ) (first rest : List ℕ) (e : PoolEntry) (es : List PoolEntry) → Then U1 WideAs first e → Entries n rest es → Entries (suc (suc n)) (first ++ rest) (e ∷ Unusable ∷ es)
 
 -- ---- what places of a pool hold
 
@@ -63,10 +81,6 @@ abbrev pub class_in : PoolEntry → Option ℕ
 class_in (Class name) = Some name
 class_in e = None
 
-abbrev pub is_name_type : PoolEntry → Bool
-is_name_type (NameType name desc) = true
-is_name_type e = false
-
 -- the text at a place
 abbrev pub text_at : List PoolEntry → ℕ → Option (List ℕ)
 text_at pool i = option_and_then text_in (slice_get pool i)
@@ -74,10 +88,6 @@ text_at pool i = option_and_then text_in (slice_get pool i)
 -- the name of the class that a place names
 abbrev pub class_at : List PoolEntry → ℕ → Option (List ℕ)
 class_at pool i = option_and_then (text_at pool) (option_and_then class_in (slice_get pool i))
-
--- whether the constant at a place is a name with a descriptor
-abbrev pub has_name_type : List PoolEntry → ℕ → Bool
-has_name_type pool i = is_some (option_and_then (λ e. if is_name_type e then Some e else None) (slice_get pool i))
 
 -- the places of a method's class and of its name with its descriptor
 abbrev pub method_in : PoolEntry → Option (ℕ × ℕ)
@@ -101,23 +111,90 @@ method_with pool places = option_and_then (λ class. option_and_then (member_wit
 abbrev pub method_at : List PoolEntry → ℕ → Option MemberName
 method_at pool i = option_and_then (method_with pool) (option_and_then method_in (slice_get pool i))
 
--- whether a constant's own places are of the sorts that it needs
+-- whether a text stands at a place; whether a class does; whether a name with a descriptor does
+abbrev pub has_text : List PoolEntry → ℕ → Bool
+has_text pool i = is_some (text_at pool i)
+
+abbrev pub has_class : List PoolEntry → ℕ → Bool
+has_class pool i = is_some (option_and_then class_in (slice_get pool i))
+
+abbrev pub has_name_type : List PoolEntry → ℕ → Bool
+has_name_type pool i = is_some (option_and_then name_type_in (slice_get pool i))
+
+-- whether a constant's own places are of the sorts that it needs (JVMS 4.4.1 to 4.4.6)
 abbrev pub is_sound : List PoolEntry → PoolEntry → Bool
 is_sound pool Unusable = true
 is_sound pool (Utf8 text) = true
 is_sound pool (Integer n) = true
-is_sound pool (Float n) = true
+is_sound pool (Float bits) = true
 is_sound pool (Long n) = true
-is_sound pool (Double n) = true
-is_sound pool (Class name) = is_some (text_at pool name)
-is_sound pool (Str text) = is_some (text_at pool text)
-is_sound pool (Field class member) = is_some (class_at pool class) && has_name_type pool member
-is_sound pool (Method class member) = is_some (class_at pool class) && has_name_type pool member
-is_sound pool (InterfaceMethod class member) = is_some (class_at pool class) && has_name_type pool member
-is_sound pool (NameType name desc) = is_some (text_at pool name) && is_some (text_at pool desc)
+is_sound pool (Double bits) = true
+is_sound pool (Class name) = has_text pool name
+is_sound pool (Str text) = has_text pool text
+is_sound pool (Field class member) = has_class pool class && has_name_type pool member
+is_sound pool (Method class member) = has_class pool class && has_name_type pool member
+is_sound pool (InterfaceMethod class member) = has_class pool class && has_name_type pool member
+is_sound pool (NameType name desc) = has_text pool name && has_text pool desc
 is_sound pool (Handle kind member) = true
 is_sound pool (MethodKind desc) = true
 is_sound pool (Dynamic bootstrap member) = true
+
+-- The pool (JVMS 4.4): a count, which is not 0, and the constants of the places from 1 on, each of them sound.
+abbrev pub PoolIs : List ℕ → List PoolEntry → Type 0
+PoolIs =
+    Then U2 (λ count. Where (not (count == 0)) (
+    Then (Entries (count - 1)) (λ entries. Where (list_all (is_sound (Unusable ∷ entries)) entries) (Is (Unusable ∷ entries)))))
+
+-- ---- attributes (JVMS 4.7)
+
+-- An attribute that is passed over: of its name only that it is a text counts.
+abbrev pub Skipped : List PoolEntry → Unit {0} → List ℕ → Unit {0} → Type 0
+Skipped pool u = Then U2 (λ n. Given (text_at pool n) (λ name. Then U4 (λ size. Then (Run size) (λ inside. Is tt))))
+
+-- ---- fields (JVMS 4.5)
+
+-- a member's name and descriptor, of which a class has each once
+abbrev pub Key : Type 0
+Key = List ℕ × List ℕ
+
+abbrev pub is_key : List ℕ → List ℕ → Key → Bool
+is_key name desc key = bytes_eq name key.0 && bytes_eq desc key.1
+
+-- the types whose values are ints
+abbrev pub is_int_type : List ℕ → Bool
+is_int_type desc = bytes_eq desc (codes "B") || bytes_eq desc (codes "C") || bytes_eq desc (codes "I") || bytes_eq desc (codes "S") || bytes_eq desc (codes "Z")
+
+-- whether a field of this type may have this constant (JVMS table 4.7.2-A)
+abbrev pub is_constant_of : List ℕ → PoolEntry → Bool
+is_constant_of desc (Integer n) = is_int_type desc
+is_constant_of desc (Long n) = bytes_eq desc (codes "J")
+is_constant_of desc (Float bits) = bytes_eq desc (codes "F")
+is_constant_of desc (Double bits) = bytes_eq desc (codes "D")
+is_constant_of desc (Str text) = bytes_eq desc (codes "Ljava/lang/String;")
+is_constant_of desc e = false
+
+abbrev pub has_constant_of : List PoolEntry → List ℕ → ℕ → Bool
+has_constant_of pool desc i = is_some (option_and_then (λ e. if is_constant_of desc e then Some e else None) (slice_get pool i))
+
+-- the constant of a field that has none yet (JVMS 4.7.2)
+abbrev pub ConstantIs : List PoolEntry → List ℕ → Option ℕ → List ℕ → Option ℕ → Type 0
+ConstantIs pool desc constant = Where (not (is_some constant)) (Then U4 (λ size. Where (size == 2) (Then U2 (λ i. Where (has_constant_of pool desc i) (Is (Some i))))))
+
+-- An attribute of a field behind those that left this constant: a ConstantValue of a static field is looked
+-- at, and every other attribute is passed over.
+abbrev pub FieldAttribute : List PoolEntry → Bool → List ℕ → Option ℕ → List ℕ → Option ℕ → Type 0
+FieldAttribute pool static desc constant =
+    Then U2 (λ n. Given (text_at pool n) (λ name. Choice (static && bytes_eq name (codes "ConstantValue")) (ConstantIs pool desc constant)
+    (Then U4 (λ size. Then (Run size) (λ inside. Is constant)))))
+
+-- a field behind those with the keys that were met
+abbrev pub FieldIs : List PoolEntry → List Key → List ℕ → FieldInfo × List Key → Type 0
+FieldIs pool met =
+    Then U2 (λ flags.
+    Then U2 (λ n. Given (text_at pool n) (λ name. Where (is_field_name name) (
+    Then U2 (λ d. Given (text_at pool d) (λ desc. That (IsFieldDescriptor desc) (Where (not (list_any (is_key name desc) met)) (
+    Then (CountedOn (FieldAttribute pool (is_static flags) desc) None) (λ constant.
+    Is (record { name = name; desc = desc; flags = flags; constant = constant }, met ++ (name, desc) ∷ []))))))))))
 
 -- ---- methods (JVMS 4.6)
 
@@ -126,19 +203,21 @@ abbrev pub HandlerIs : List ℕ → Handler → Type 0
 HandlerIs = Then U2 (λ start. Then U2 (λ end. Then U2 (λ target. Then U2 (λ class. Is (record { start = start; end = end; target = target; catch_class = class })))))
 
 -- the inside of a Code attribute (JVMS 4.7.3)
-abbrev pub CodeIs : List ℕ → CodeInfo → Type 0
-CodeIs =
+abbrev pub CodeIs : List PoolEntry → List ℕ → CodeInfo → Type 0
+CodeIs pool =
     Then U2 (λ stack. Then U2 (λ locals. Then U4 (λ size. Where (not (size == 0) && nat_lt size 65536) (
-    Then (Run size) (λ code. Then (Counted HandlerIs) (λ table. Then (Counted {X = Unit {0}} NotWritten) (λ attributes.
+    Then (Run size) (λ code. Then (Counted HandlerIs) (λ table. Then (CountedOn (Skipped pool) tt) (λ u.
     Is (record { max_stack = stack; max_locals = locals; code = code; table = table }))))))))
 
--- an attribute of a method, by its name and the bytes inside
-pub data MethodAttributeAs : List ℕ → List ℕ → Option CodeInfo → Type 0 where
-  a_code : (inside : List ℕ) (c : CodeInfo) → CodeIs inside c → MethodAttributeAs (codes "Code") inside (Some c)
+-- the inside of an attribute of a method: of a Code its code, and every other is passed over
+abbrev pub MethodAttributeAs : List PoolEntry → Bool → List ℕ → Option CodeInfo → Type 0
+MethodAttributeAs pool true inside (Some code) = CodeIs pool inside code
+MethodAttributeAs pool true inside None = ⊥
+MethodAttributeAs pool false inside code = code ≡ None
 
--- an attribute: its name, how many bytes it has, and these (JVMS 4.7)
-abbrev pub AttributeOf : {X : Type 0} → List PoolEntry → (List ℕ → List ℕ → X → Type 0) → List ℕ → X → Type 0
-AttributeOf pool G = Then U2 (λ n. Given (text_at pool n) (λ name. Then U4 (λ size. Then (Run size) (λ inside. Inside (G name) inside))))
+-- an attribute of a method: its name, how many bytes it has, and these
+abbrev pub MethodAttribute : List PoolEntry → List ℕ → Option CodeInfo → Type 0
+MethodAttribute pool = Then U2 (λ n. Given (text_at pool n) (λ name. Then U4 (λ size. Then (Run size) (λ inside. Inside (MethodAttributeAs pool (bytes_eq name (codes "Code"))) inside))))
 
 -- The code that the attributes of a method leave: none in a native or abstract method, exactly one in
 -- every other.
@@ -149,24 +228,17 @@ only_code false [] = None
 only_code false (c ∷ []) = Some (Some c)
 only_code false (c ∷ d ∷ codes) = None
 
--- a method's name and descriptor, of which a class has each once
-abbrev pub Key : Type 0
-Key = List ℕ × List ℕ
-
-abbrev pub is_key : List ℕ → List ℕ → Key → Bool
-is_key name desc key = bytes_eq name key.0 && bytes_eq desc key.1
-
--- a method's descriptor (JVMS 4.3.3)
-abbrev pub is_method_descriptor : List ℕ → Bool
-is_method_descriptor desc = bytes_eq desc (codes "()V") || bytes_eq desc (codes "()I")
+-- How many slots the parameters may take: 255, and the object of an instance method takes one (JVMS 4.3.3).
+abbrev pub parameter_slots : ℕ → ℕ
+parameter_slots flags = if is_static flags then 255 else 254
 
 -- a method behind those with the keys that were met
 abbrev pub MethodIs : List PoolEntry → List Key → List ℕ → MethodInfo × List Key → Type 0
 MethodIs pool met =
     Then U2 (λ flags.
     Then U2 (λ n. Given (text_at pool n) (λ name. Where (is_method_name name) (
-    Then U2 (λ d. Given (text_at pool d) (λ desc. Where (is_method_descriptor desc) (Where (not (list_any (is_key name desc) met)) (
-    Then (Counted (AttributeOf pool MethodAttributeAs)) (λ attributes.
+    Then U2 (λ d. Given (text_at pool d) (λ desc. That (IsMethodDescriptor (parameter_slots flags) desc) (Where (not (list_any (is_key name desc) met)) (
+    Then (Counted (MethodAttribute pool)) (λ attributes.
     Given (only_code (is_native_or_abstract flags) (filter_map (λ a. a) attributes)) (λ code.
     Is (record { name = name; desc = desc; flags = flags; code = code }, met ++ (name, desc) ∷ [])))))))))))
 
@@ -188,16 +260,14 @@ ClassBehind major pool =
     Then U2 (λ flags.
     Then (ClassNamed pool) (λ name. Where (is_class_name name) (
     Then (SuperIs pool flags name) (λ superclass.
-    Then (Counted NotWritten) (λ interfaces.
-    Then (Counted NotWritten) (λ fields.
-    Then U2 (λ n. Then (ManyOn (MethodIs pool) n []) (λ methods.
-    Then (Counted {X = Unit {0}} NotWritten) (λ attributes.
-    Is (record { name = name; superclass = superclass; interfaces = interfaces; flags = flags; major = major; pool = pool; fields = fields; methods = methods.0 }))))))))))
+    Then (Counted (ClassNamed pool)) (λ interfaces.
+    Then U2 (λ n. Then (ManyOn (FieldIs pool) n []) (λ fields.
+    Then U2 (λ m. Then (ManyOn (MethodIs pool) m []) (λ methods.
+    Then (CountedOn (Skipped pool) tt) (λ u.
+    Is (record { name = name; superclass = superclass; interfaces = interfaces; flags = flags; major = major; pool = pool; fields = fields.0; methods = methods.0 })))))))))))
 
 abbrev pub Spells : List ℕ → ClassInfo → Type 0
 Spells =
     Then U4 (λ magic. Where (magic == 0xCAFEBABE) (
     Then U2 (λ minor. Then U2 (λ major. Where (nat_le 45 major && nat_le major 52) (
-    Then U2 (λ count. Where (not (count == 0)) (
-    Then (Entries (count - 1)) (λ entries. Where (list_all (is_sound (Unusable ∷ entries)) entries) (
-    ClassBehind major (Unusable ∷ entries))))))))))
+    Then PoolIs (ClassBehind major))))))

@@ -1,6 +1,6 @@
 -- The pieces that a grammar of bytes is made of. A grammar relates bytes to what they spell.
 use Rattle.std.specs.Prelude.{◌≡◌, ℕ, zero, suc, ◌^◌, ◌<◌, Bool, true, false, List, [], ◌∷◌, ◌++◌, length, get_or, Option, Some}
-use Rattle.std.specs.Int.{Width, w8, w16, w32, byte_len, to_be_bytes}
+use Rattle.std.specs.Int.{Width, w8, w16, w32, w64, byte_len, to_be_bytes}
 
 -- each is a byte
 pub record IsBytes (bytes : List ℕ) : Type 0 where
@@ -11,7 +11,7 @@ pub record Number (w : Width) (bytes : List ℕ) (n : ℕ) : Type 0 where
   pub spelled : bytes ≡ to_be_bytes w n
   pub small : n < 256 ^ byte_len w
 
--- u1, u2 and u4 (JVMS 4)
+-- u1, u2, u4 and u8 (JVMS 4)
 abbrev pub U1 : List ℕ → ℕ → Type 0
 U1 = Number w8
 
@@ -20,6 +20,9 @@ U2 = Number w16
 
 abbrev pub U4 : List ℕ → ℕ → Type 0
 U4 = Number w32
+
+abbrev pub U8 : List ℕ → ℕ → Type 0
+U8 = Number w64
 
 -- n bytes, as they stand
 pub record Run (n : ℕ) (bytes value : List ℕ) : Type 0 where
@@ -43,6 +46,11 @@ pub record Then {A B : Type 0} (G : List ℕ → A → Type 0) (H : A → List �
 -- a piece under a condition
 pub record Where {B : Type 0} (test : Bool) (G : List ℕ → B → Type 0) (bytes : List ℕ) (y : B) : Type 0 where
   pub holds : test ≡ true
+  pub rest : G bytes y
+
+-- a piece where a fact holds
+pub record That {B : Type 0} (P : Type 0) (G : List ℕ → B → Type 0) (bytes : List ℕ) (y : B) : Type 0 where
+  pub holds : P
   pub rest : G bytes y
 
 -- a piece that depends on a value which has to be there
@@ -75,6 +83,15 @@ abbrev pub ManyOn : {X K : Type 0} → (K → List ℕ → X × K → Type 0) �
 ManyOn G zero k = Is ([], k)
 ManyOn G (suc n) k = Then (G k) (λ x. Then (ManyOn G n x.1) (λ xs. Is (x.0 ∷ xs.0, xs.1)))
 
--- a piece of which no case is written yet
-abbrev pub NotWritten : {X : Type 0} → List ℕ → X → Type 0
-NotWritten bytes x = ⊥
+-- n pieces, each of which takes what those before it left to what it leaves
+abbrev pub Times : {K : Type 0} → (K → List ℕ → K → Type 0) → ℕ → K → List ℕ → K → Type 0
+Times G zero k = Is k
+Times G (suc n) k = Then (G k) (Times G n)
+
+-- a count of two bytes, and so many of these
+abbrev pub CountedOn : {K : Type 0} → (K → List ℕ → K → Type 0) → K → List ℕ → K → Type 0
+CountedOn G k = Then U2 (λ n. Times G n k)
+
+-- what no bytes spell
+abbrev pub Never : {X : Type 0} → List ℕ → X → Type 0
+Never bytes x = ⊥

@@ -1,4 +1,6 @@
 pub mod ClassFile
+pub mod Descriptors
+pub mod Exactness
 pub mod Grammar
 pub mod Items
 pub mod NameForm
@@ -7,3 +9,5 @@ pub mod Place
 pub mod Reading
 pub mod Report
 pub mod Members
+pub mod Words
+pub mod Writing

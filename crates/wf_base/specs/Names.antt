@@ -28,6 +28,14 @@ are_parts begun (b ∷ bytes) = if b == 47 then begun && are_parts false bytes e
 abbrev pub is_class_name : List ℕ → Bool
 is_class_name name = are_parts false name
 
+-- what no name of a field has: a forbidden byte or `/`
+abbrev pub is_not_in_fields : ℕ → Bool
+is_not_in_fields b = is_forbidden b || b == 47
+
+-- the name of a field (JVMS 4.2.2)
+abbrev pub is_field_name : List ℕ → Bool
+is_field_name name = not (length name == 0) && not (list_any is_not_in_fields name)
+
 -- what no name of a method has, but the two special ones: a forbidden byte, `/`, `<` or `>`
 abbrev pub is_not_in_methods : ℕ → Bool
 is_not_in_methods b = is_forbidden b || b == 47 || b == 60 || b == 62

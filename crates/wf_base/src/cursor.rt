@@ -1,5 +1,5 @@
 ghost use Rattle.std.specs.Prelude.{◌≡◌, ◌+◌, ◌<◌, ◌^◌, ◌==◌, length};
-ghost use Rattle.std.specs.Int.{w8, w16, w32};
+ghost use Rattle.std.specs.Int.{w8, w16, w32, w64};
 ghost use Rattle.std.specs.Option.{option_copied};
 ghost use Rattle.wf_base.specs.Place.{spot, ReadsNumber, TakesBytes, PartsAt};
 
@@ -70,6 +70,19 @@ impl<'a> Cursor<'a> {
         let number = BigEndian::read_u32(self.left);
         self.at += 4;
         self.left = &self.left[4..];
+        Some(number)
+    }
+
+    /// A number of eight bytes, the highest first.
+    pub fn u8(&mut self) -> Option<u64>
+        ensures { ReadsNumber w64 self.old self.new result }
+    {
+        if self.left.len() < 8 {
+            return None;
+        }
+        let number = BigEndian::read_u64(self.left);
+        self.at += 8;
+        self.left = &self.left[8..];
         Some(number)
     }
 
