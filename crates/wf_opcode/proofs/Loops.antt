@@ -1,0 +1,32 @@
+-- A loop that reads items ends at the first that fails.
+use Rattle.std.proofs.Common.{◌≡◌, ℕ, suc, ◌-◌, ◌+◌, ◌<◌, List, ◌∷◌, ◌++◌, Result, Ok, Err, subst, arith}
+use Rattle.wf_base.specs.Place.{Place}
+use Rattle.wf_base.specs.Reading.{Fault, Reader, ◌>>=◌, many, many_on}
+use Rattle.wf_base.proofs.Loops.{with_front, with_front_on}
+use Rattle.wf_opcode.specs.declared.fault.Stop.{Stop}
+use Rattle.wf_opcode.specs.declared.fault.Stop.TheVariants.{NoInstruction, NoMemory}
+use Rattle.wf_opcode.specs.Readers.{Fails}
+
+-- where a step fails, so does the whole
+bind_fails : {A B : Type 0} (e : Stop) (r : Result A Fault) (f : A → Result B Fault) → Fails e r → Fails e (r >>= f)
+bind_fails NoMemory r f h = tt
+bind_fails NoInstruction (Ok x) f h = absurd h
+bind_fails NoInstruction (Err e) f h = tt
+
+pub ends : {X : Type 0} (e : Stop) (r : Reader X) (front : List X) (count i : ℕ) (p : Place) (total : Result (List X × Place) Fault) → i < count → Fails e (r p)
+    → with_front front (many r (count - i) p) ≡ total → Fails e total
+unfolding many
+ends {X = X} e r front count i p total lt h so_far =
+    let k : count - i ≡ suc (count - (i + 1)) = omega arith in
+    let step = bind_fails e (r p) (λ x. many r (count - (i + 1)) x.1 >>= λ xs. Ok (x.0 ∷ xs.0, xs.1)) h in
+    let whole = bind_fails e (r p >>= λ x. many r (count - (i + 1)) x.1 >>= λ xs. Ok (x.0 ∷ xs.0, xs.1)) (λ xs. Ok (front ++ xs.0, xs.1)) step in
+    subst (λ (t : Result (List X × Place) Fault). Fails e t) so_far (rw k whole)
+
+pub ends_on : {X K : Type 0} (e : Stop) (r : K → Reader (X × K)) (front : List X) (count i : ℕ) (k : K) (p : Place) (total : Result ((List X × K) × Place) Fault) → i < count → Fails e (r k p)
+    → with_front_on front (many_on r (count - i) k p) ≡ total → Fails e total
+unfolding many_on
+ends_on {X = X} {K = K} e r front count i k p total lt h so_far =
+    let n : count - i ≡ suc (count - (i + 1)) = omega arith in
+    let step = bind_fails e (r k p) (λ x. many_on r (count - (i + 1)) x.0.1 x.1 >>= λ xs. Ok ((x.0.0 ∷ xs.0.0, xs.0.1), xs.1)) h in
+    let whole = bind_fails e (r k p >>= λ x. many_on r (count - (i + 1)) x.0.1 x.1 >>= λ xs. Ok ((x.0.0 ∷ xs.0.0, xs.0.1), xs.1)) (λ xs. Ok ((front ++ xs.0.0, xs.0.1), xs.1)) step in
+    subst (λ (t : Result ((List X × K) × Place) Fault). Fails e t) so_far (rw n whole)

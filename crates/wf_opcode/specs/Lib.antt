@@ -1,0 +1,4 @@
+pub mod Decoding
+pub mod Instructions
+pub mod Readers
+pub mod Table
