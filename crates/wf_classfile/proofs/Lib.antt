@@ -1,4 +1,2 @@
-pub mod FormLaws
 pub mod Lists
-pub mod Many
-pub mod CodeLaws
+pub mod WriteLoops

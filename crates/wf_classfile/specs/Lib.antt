@@ -1,3 +1,1 @@
-pub mod FirstForm
-pub mod Readers
-pub mod Code
+pub mod Writers

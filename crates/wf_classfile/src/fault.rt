@@ -1,31 +1,31 @@
 ghost use Rattle.std.specs.Prelude.{◌≡◌};
-ghost use Rattle.wf_classfile.specs.declared.fault.ClassFault.TheVariants.{NoMemory};
+ghost use Rattle.wf_classfile.specs.declared.fault.SpellFault.TheVariants.{NoMemory};
 
 use std::alloc::{AllocError, AllocFailed};
 use thiserror::Error;
 
-/// Why a file gives no class.
+/// Why a class is not written.
 #[derive(Debug, Drop, Error)]
-pub enum ClassFault {
-    /// The file isn't of the first form.
-    #[error("not built yet")]
-    Unbuilt,
+pub enum SpellFault {
+    /// No bytes spell the class.
+    #[error("no class file spells the class")]
+    NotSpellable,
     #[error("no memory")]
     NoMemory,
 }
 
-impl From<AllocError> for ClassFault {
+impl From<AllocError> for SpellFault {
     ghost from_gives = { λ _ e. e ≡ NoMemory };
 
-    fn from(_: AllocError) -> ClassFault {
-        ClassFault::NoMemory
+    fn from(_: AllocError) -> SpellFault {
+        SpellFault::NoMemory
     }
 }
 
-impl<T: Drop> From<AllocFailed<T>> for ClassFault {
+impl<T: Drop> From<AllocFailed<T>> for SpellFault {
     ghost from_gives = { λ _ e. e ≡ NoMemory };
 
-    fn from(_: AllocFailed<T>) -> ClassFault {
-        ClassFault::NoMemory
+    fn from(_: AllocFailed<T>) -> SpellFault {
+        SpellFault::NoMemory
     }
 }

@@ -1,21 +1,18 @@
-//! Class files are read: exactly those of the first form, as the class that their bytes spell.
+//! Class files are read exactly: as the class that their bytes spell, or with the first fault of bytes that
+//! spell none.
 #![tactic(auto)]
 
-mod code;
+mod constants;
 mod fault;
-mod flags;
-mod form;
 mod keys;
-mod names;
-mod pool;
 mod read;
 mod reader;
+mod write;
+mod writer;
 
-pub use code::{Operation, Placed, operations};
-pub use fault::ClassFault;
-pub use flags::{is_interface, is_static};
-pub use pool::method_at;
-pub use read::{read_class, the_form_is_read};
+pub use fault::SpellFault;
+pub use read::read_class;
+pub use write::{write_class, written_and_read};
 
 #[cfg(test)]
 mod tests;

@@ -1,77 +1,97 @@
 ghost use Rattle.std.specs.Prelude.{◌≡◌, IfOk};
-ghost use Rattle.std.specs.Int.{w8, w16, w32};
-ghost use Rattle.wf_base.specs.Reading.{number, run, counted, not_written};
-ghost use Rattle.wf_classfile.specs.Readers.{Gives, GivesAs};
+ghost use Rattle.std.specs.Int.{w16, w32};
+ghost use Rattle.wf_base.specs.Reading.{number, run, skipped, times};
+ghost use Rattle.wf_constpool.specs.Readers.{Gives, GivesAs};
 
 mod class;
-mod constants;
+mod fields;
 mod methods;
 
-use crate::fault::ClassFault;
-pub use class::class_of;
+pub use class::{MAGIC, class_of, is_known_version, may_be_root, may_extend};
+pub use methods::parameter_slots;
 use std::alloc::Global;
-use wf_base::{Cursor, Items};
+use wf_base::{Cursor, PoolEntry, Why};
+use wf_constpool::{self, ClassFault, text_at};
 
-/// A reader of the items of a class file, from the first to the last (JVMS 4). Each method reads one item.
+/// A reader of the items of a class file, from the first to the last (JVMS 4). Each method reads one item
+/// or a few that belong together.
 #[derive(Debug, Drop)]
 pub struct Reader<'a> {
     alloc: Global,
     cursor: Cursor<'a>,
 }
 
+fn bad(offset: u32, why: Why) -> ClassFault
+    ensures { result ≡ ClassFault.Bad offset why }
+{
+    ClassFault::Bad { offset, why }
+}
+
 impl<'a> Reader<'a> {
-    #[tactic(auto, unfolding(wf_base::specs::Reading::number))]
-    pub fn u1(&mut self) -> Result<u8, ClassFault>
-        ensures { Gives self.new.cursor result (number w8 self.old.cursor) }
+    /// Where the next item begins.
+    fn at(&self) -> u32
+        ensures { result ≡ self.now.cursor.at }
     {
-        self.cursor.u1().ok_or(ClassFault::Unbuilt)
+        self.cursor.at()
     }
 
-    #[tactic(auto, unfolding(wf_base::specs::Reading::number))]
-    pub fn u2(&mut self) -> Result<u16, ClassFault>
+    fn u2(&mut self) -> Result<u16, ClassFault>
         ensures { Gives self.new.cursor result (number w16 self.old.cursor) }
     {
-        self.cursor.u2().ok_or(ClassFault::Unbuilt)
+        wf_constpool::u2(&mut self.cursor)
     }
 
-    #[tactic(auto, unfolding(wf_base::specs::Reading::number))]
-    pub fn u4(&mut self) -> Result<u32, ClassFault>
+    fn u4(&mut self) -> Result<u32, ClassFault>
         ensures { Gives self.new.cursor result (number w32 self.old.cursor) }
     {
-        self.cursor.u4().ok_or(ClassFault::Unbuilt)
+        wf_constpool::u4(&mut self.cursor)
     }
 
     /// The next n bytes, where they are.
-    #[tactic(auto, unfolding(wf_base::specs::Reading::run))]
     fn run(&mut self, n: u32) -> Result<&'a [u8], ClassFault>
         ensures { GivesAs (λ bytes. bytes.now) self.new.cursor result (run n self.old.cursor) }
     {
-        self.cursor.take(n).ok_or(ClassFault::Unbuilt)
+        wf_constpool::run(&mut self.cursor, n)
     }
 
     /// A reader of the next n bytes alone.
     #[tactic(auto, unfolding(wf_base::specs::Reading::run))]
-    pub fn part(&mut self, n: u32) -> Result<Reader<'a>, ClassFault>
+    fn part(&mut self, n: u32) -> Result<Reader<'a>, ClassFault>
         ensures bytes { GivesAs (λ inside. inside.cursor.left) self.new.cursor result (run n self.old.cursor) }
         ensures place { IfOk result (λ inside. inside.cursor.at ≡ self.old.cursor.at) }
     {
+        let at = self.at();
         match self.cursor.part(n) {
             Some(cursor) => Ok(Reader {
                 alloc: self.alloc,
                 cursor,
             }),
-            None => Err(ClassFault::Unbuilt),
+            None => Err(bad(at, Why::Cut)),
         }
     }
 
-    /// A count of items of which no case is written yet: there may be none.
-    #[tactic(auto, unfolding(wf_base::specs::Reading::counted, wf_base::specs::Reading::many))]
-    pub fn no_items<T>(&mut self) -> Result<Items<T>, ClassFault>
-        ensures { Gives self.new.cursor result (counted {X = T} not_written self.old.cursor) }
+    /// Passes over an attribute (JVMS 4.7.1).
+    #[tactic(auto, unfolding(wf_base::specs::Reading::skipped))]
+    fn skip_attribute(&mut self, pool: &[PoolEntry]) -> Result<(), ClassFault>
+        ensures { Gives self.new.cursor result (skipped pool.now tt self.old.cursor) }
     {
-        if self.u2()? != 0 {
-            return Err(ClassFault::Unbuilt);
+        let at = self.at();
+        let place = self.u2()?;
+        if text_at(pool, place).is_none() {
+            return Err(bad(at, Why::Index));
         }
-        Ok(Items::new(self.alloc))
+        let size = self.u4()?;
+        self.run(size)?;
+        Ok(())
+    }
+
+    #[tactic(auto, using(wf_base::proofs::Loops::goes_on_times, wf_constpool::proofs::Loops::ends_times, wf_base::proofs::Loops::is_done_times))]
+    fn skip_attributes(&mut self, pool: &[PoolEntry], count: u16) -> Result<(), ClassFault>
+        ensures { Gives self.new.cursor result (times (skipped pool.now) count tt self.old.cursor) }
+    {
+        for _ in 0..count {
+            self.skip_attribute(pool)?;
+        }
+        Ok(())
     }
 }

@@ -1,489 +1,344 @@
+mod writing;
+
 use super::*;
 use std::alloc::{AllocError, Global};
 use std::process::Abort;
 use std::test::Fail;
+use wf_base::{ClassInfo, PoolEntry, Why};
+use wf_constpool::ClassFault;
 
-/// A method of a test's file. Its name has place 5 of the pool, its descriptor 6, and `Code` 7.
-#[derive(Clone, Copy)]
-struct Method<'a> {
-    flags: u16,
-    max_stack: u16,
-    max_locals: u16,
-    code: &'a [u8],
-    /// How many handlers the code has: each is eight zeros.
-    handlers: u16,
-    /// How often the method stands in the file.
-    times: u16,
-}
-
-/// A test's class file. Its name has place 1 of the pool, the class 2, and `java/lang/Object` 3 and 4. A
-/// method `f` of the class has place 11: its name 8, its descriptor 9, and the two 10.
-#[derive(Clone, Copy)]
-struct File<'a> {
-    magic: u32,
-    major: u16,
-    name: &'a [u8],
-    method_name: &'a [u8],
-    desc: &'a [u8],
-    /// The descriptor of `f`.
-    callee: &'a [u8],
-    /// A constant behind the others, if any.
-    constant: &'a [u8],
-    flags: u16,
-    superclass: u16,
-    /// The fields and their count.
-    fields: &'a [u8],
-    method: Method<'a>,
-    end: &'a [u8],
-}
-
-/// What `javac` 17 makes, by `-g:none -source 8 -target 8` and with no classes to compile against, of
-/// `package java.lang; public class Object { public Object() { } public static void main() { } }`.
+/// `java/lang/Object` with nothing in it. Its constants have the tags at 10 and 13.
 const OBJECT: &[u8] = b"\
-    \xca\xfe\xba\xbe\0\0\0\x34\0\x07\
-    \x07\0\x02\
-    \x01\0\x10java/lang/Object\
-    \x01\0\x06<init>\
-    \x01\0\x03()V\
-    \x01\0\x04Code\
-    \x01\0\x04main\
-    \0!\0\x01\0\0\
-    \0\0\0\0\0\x02\
-    \0\x01\0\x03\0\x04\0\x01\0\x05\0\0\0\x0d\0\0\0\x01\0\0\0\x01\xb1\0\0\0\0\
-    \0\x09\0\x06\0\x04\0\x01\0\x05\0\0\0\x0d\0\0\0\0\0\0\0\x01\xb1\0\0\0\0\
-    \0\0";
+    \xca\xfe\xba\xbe\0\0\04\0\x03\x07\0\x02\x01\0\x10java/lang/Object\
+    \0!\0\x01\0\0\0\0\0\0\0\0\0\0";
 
-const MAIN: Method<'static> = Method {
-    flags: 0x0009,
-    max_stack: 0,
-    max_locals: 0,
-    code: b"\xb1",
-    handlers: 0,
-    times: 1,
+/// `public class A implements I` with `static int f = 7`, `long g`, `static void m()` and `native void g()`.
+/// Its constants stand from 10 on, the class itself at 107, the fields at 117 and 133, the methods at 143
+/// and 185, and an attribute at 195. The code of `m` has a handler and an attribute.
+const BASE: &[u8] = b"\
+    \xca\xfe\xba\xbe\0\0\04\0\x11\
+    \x01\0\x01A\x07\0\x01\x01\0\x10java/lang/Object\x07\0\x03\x01\0\x01I\x07\0\x05\
+    \x01\0\x01f\x01\0\x01m\x01\0\x03()V\x01\0\x04Code\x01\0\x0dConstantValue\
+    \x03\0\0\0\x07\x01\0\x01J\x05\0\0\0\x01\0\0\0\0\x01\0\x01g\
+    \0!\0\x02\0\x04\0\x01\0\x06\
+    \0\x02\0\x09\0\x07\0\x05\0\x01\0\x0b\0\0\0\x02\0\x0c\
+    \0\x01\0\x10\0\x0d\0\0\
+    \0\x02\0\x09\0\x08\0\x09\0\x01\0\x0a\0\0\0\x1c\
+    \0\x01\0\0\0\0\0\x01\xb1\0\x01\0\0\0\x01\0\0\0\0\0\x01\0\x01\0\0\0\x01\0\
+    \x01\x01\0\x10\0\x09\0\0\
+    \0\x01\0\x01\0\0\0\x02\0\0";
+
+/// What `javac` 17 makes, by `-source 8 -target 8 -g:none`, of a class `p.Kept implements Runnable` with four static
+/// constants, an instance field with one, a method with a handler, an abstract and a native one.
+const KEPT: &[u8] = b"\
+    \xca\xfe\xba\xbe\0\0\04\0%\x0a\0\x02\0\x03\x07\0\x04\x0c\0\x05\0\x06\x01\0\x10java/lang/Obje\
+    ct\x01\0\x06<init>\x01\0\x03()V\x09\0\x08\0\x09\x07\0\x0a\x0c\0\x0b\0\x0c\x01\0\x06p/Kept\
+    \x01\0\x04inst\x01\0\x01I\x07\0\x0e\x01\0\x1djava/lang/ArithmeticException\x07\0\x10\x01\0\
+    \x12java/lang/Runnable\x01\0\x0dConstantValue\x03\xff\xff\xff\xf9\x01\0\x01L\x01\0\x01J\x05\
+    \0\0\0\x01*\x05\xf2\0\x01\0\x01S\x01\0\x12Ljava/lang/String;\x08\0\x1a\x01\0\x04text\x01\0\
+    \x01D\x06@\x04\0\0\0\0\0\0\x03\0\0\0\x03\x01\0\x04Code\x01\0\x01f\x01\0\x17(J[Ljava/lang/Str\
+    ing;)I\x01\0\x0dStackMapTable\x01\0\x01g\x01\0\x01n\x04 \0\x08\0\x02\0\x01\0\x0f\0\x05\0\x18\
+    \0\x0c\0\x0c\0\x01\0\x11\0\0\0\x02\0\x12\0\x18\0\x13\0\x14\0\x01\0\x11\0\0\0\x02\0\x15\0\x18\
+    \0\x17\0\x18\0\x01\0\x11\0\0\0\x02\0\x19\0\x18\0\x1b\0\x1b\0\x01\0\x11\0\0\0\x02\0\x1c\0\x10\
+    \0\x0b\0\x0c\0\x01\0\x11\0\0\0\x02\0\x1e\0\x04\0\0\0\x05\0\x06\0\x01\0\x1f\0\0\0\x16\0\x02\0\
+    \x01\0\0\0\x0a*\xb7\0\x01*\x06\xb5\0\x07\xb1\0\0\0\0\0\x08\0 \0!\0\x01\0\x1f\0\0\0)\0\x03\0\
+    \x04\0\0\0\x09,\xbe\x1e\x88l\xacN\x04\xac\0\x01\0\0\0\x05\0\x06\0\x0d\0\x01\0\x22\0\0\0\x06\
+    \0\x01F\x07\0\x0d\x04\0\0#\0\x06\0\0\x01\0\0$\0\x06\0\0\0\0";
+
+/// Some bytes of a file are others, it ends earlier, or more bytes stand somewhere in it.
+#[derive(Clone, Copy)]
+struct Change {
+    bytes: &'static [(usize, u8)],
+    end: usize,
+    more: (usize, &'static [u8]),
+}
+
+const SAME: Change = Change {
+    bytes: &[],
+    end: usize::MAX,
+    more: (0, b""),
 };
 
-const INIT: Method<'static> = Method {
-    flags: 0x0001,
-    max_stack: 0,
-    max_locals: 1,
-    code: b"\xb1",
-    handlers: 0,
-    times: 1,
-};
-
-/// `class A` with `static void main()`.
-fn a_class() -> File<'static> {
-    File {
-        magic: 0xCAFEBABE,
-        major: 52,
-        name: b"A",
-        method_name: b"main",
-        desc: b"()V",
-        callee: b"()I",
-        constant: b"",
-        flags: 0x0021,
-        superclass: 4,
-        fields: &[0, 0],
-        method: MAIN,
-        end: b"",
-    }
+fn with(bytes: &'static [(usize, u8)]) -> Change {
+    Change { bytes, ..SAME }
 }
 
-/// `java/lang/Object` with this method.
-fn an_object<'a>(method_name: &'a [u8], method: Method<'a>) -> File<'a> {
-    File {
-        name: b"java/lang/Object",
-        superclass: 0,
-        method_name,
-        method,
-        ..a_class()
-    }
+fn cut_at(end: usize) -> Change {
+    Change { end, ..SAME }
 }
 
-/// `class A` with a static method of this code that returns nothing.
-fn of_void(max_stack: u16, code: &[u8]) -> File<'_> {
-    File {
-        method: Method {
-            max_stack,
-            code,
-            ..MAIN
-        },
-        ..a_class()
-    }
-}
-
-/// The same that returns an int.
-fn of_int(max_stack: u16, code: &[u8]) -> File<'_> {
-    File {
-        desc: b"()I",
-        ..of_void(max_stack, code)
-    }
-}
-
-fn put_u2(out: &mut Vec<u8>, n: u16) -> Result<(), AllocError> {
-    out.extend_from_slice(&n.to_be_bytes())
-}
-
-fn put_text(out: &mut Vec<u8>, text: &[u8]) -> Result<(), AllocError> {
-    out.push(1)?;
-    put_u2(out, u16::try_from(text.len()).unwrap_or(0))?;
-    out.extend_from_slice(text)
-}
-
-fn put_class(out: &mut Vec<u8>, name: u16) -> Result<(), AllocError> {
-    out.push(7)?;
-    put_u2(out, name)
-}
-
-fn put_pool(out: &mut Vec<u8>, file: &File<'_>) -> Result<(), AllocError> {
-    put_u2(out, if file.constant.is_empty() { 12 } else { 13 })?;
-    put_text(out, file.name)?;
-    put_class(out, 1)?;
-    put_text(out, b"java/lang/Object")?;
-    put_class(out, 3)?;
-    put_text(out, file.method_name)?;
-    put_text(out, file.desc)?;
-    put_text(out, b"Code")?;
-    put_text(out, b"f")?;
-    put_text(out, file.callee)?;
-    out.extend_from_slice(&[12, 0, 8, 0, 9, 10, 0, 2, 0, 10])?;
-    out.extend_from_slice(file.constant)
-}
-
-fn put_code(out: &mut Vec<u8>, method: Method<'_>) -> Result<(), AllocError> {
-    put_u2(out, 7)?;
-    let code_size = u16::try_from(method.code.len()).unwrap_or(0);
-    let size = 12 + u32::from(code_size) + 8 * u32::from(method.handlers);
-    out.extend_from_slice(&size.to_be_bytes())?;
-    put_u2(out, method.max_stack)?;
-    put_u2(out, method.max_locals)?;
-    out.extend_from_slice(&[0, 0])?;
-    put_u2(out, code_size)?;
-    out.extend_from_slice(method.code)?;
-    put_u2(out, method.handlers)?;
-    for _ in 0..method.handlers {
-        out.extend_from_slice(&[0; 8])?;
-    }
-    put_u2(out, 0)
-}
-
-fn put_methods(out: &mut Vec<u8>, method: Method<'_>) -> Result<(), AllocError> {
-    put_u2(out, method.times)?;
-    for _ in 0..method.times {
-        put_u2(out, method.flags)?;
-        put_u2(out, 5)?;
-        put_u2(out, 6)?;
-        put_u2(out, 1)?;
-        put_code(out, method)?;
-    }
-    Ok(())
-}
-
-fn bytes_of(alloc: Global, file: &File<'_>) -> Result<Vec<u8>, AllocError> {
+fn changed(alloc: Global, file: &[u8], change: Change) -> Result<Vec<u8>, AllocError> {
     let mut out = Vec::new(alloc);
-    out.extend_from_slice(&file.magic.to_be_bytes())?;
-    put_u2(&mut out, 0)?;
-    put_u2(&mut out, file.major)?;
-    put_pool(&mut out, file)?;
-    put_u2(&mut out, file.flags)?;
-    put_u2(&mut out, 2)?;
-    put_u2(&mut out, file.superclass)?;
-    put_u2(&mut out, 0)?;
-    out.extend_from_slice(file.fields)?;
-    put_methods(&mut out, file.method)?;
-    put_u2(&mut out, 0)?;
-    out.extend_from_slice(file.end)?;
+    let (place, more) = change.more;
+    for (i, byte) in file.iter().enumerate() {
+        if i == place {
+            out.extend_from_slice(more)?;
+        }
+        if i < change.end {
+            out.push(
+                change
+                    .bytes
+                    .iter()
+                    .find(|b| b.0 == i)
+                    .map_or(*byte, |b| b.1),
+            )?;
+        }
+    }
+    if place == file.len() {
+        out.extend_from_slice(more)?;
+    }
     Ok(out)
 }
 
-fn is_unbuilt(rt: &(impl Abort + AllocGlobal), bytes: &[u8]) -> bool {
+fn read(rt: &(impl Abort + AllocGlobal), bytes: &[u8]) -> Result<ClassInfo, ClassFault> {
     assert!(rt; bytes.len() < 1000);
-    matches!(read_class(rt.alloc(), bytes), Err(ClassFault::Unbuilt))
+    read_class(rt.alloc(), bytes)
 }
 
-#[test]
-fn files_of_the_form(rt: HostRuntime) -> Result<(), Fail> {
-    let none = Method { times: 0, ..MAIN };
-    let cases = [
-        (a_class(), 1),
-        (an_object(b"main", none), 0),
-        (an_object(b"<init>", INIT), 1),
-    ];
-    for (file, methods) in &cases {
-        let bytes = bytes_of(rt.alloc(), file)?;
-        assert!(rt; bytes.len() < 1000);
-        let class = read_class(rt.alloc(), &bytes)?;
-        assert_eq!(rt; class.name.as_slice(), file.name);
-        assert_eq!(rt; class.superclass.is_some(), file.superclass == 4);
-        assert_eq!(rt; class.major, 52);
-        assert_eq!(rt; class.flags, 0x0021);
-        assert_eq!(rt; class.pool.len(), 12);
-        assert_eq!(rt; class.methods.len(), *methods);
-        for method in class.methods.as_slice() {
-            assert_eq!(rt; method.name.as_slice(), file.method_name);
-            assert_eq!(rt; method.desc.as_slice(), b"()V".as_slice());
-            assert_eq!(rt; method.flags, file.method.flags);
-            assert!(rt; method.code.is_some());
-        }
+fn is_bad(read: &Result<ClassInfo, ClassFault>, place: u32, word: Why) -> bool {
+    match read {
+        Err(ClassFault::Bad { offset, why }) => *offset == place && *why == word,
+        _ => false,
     }
-    Ok(())
 }
 
 #[test]
-fn a_file_of_javac(rt: HostRuntime) -> Result<(), Fail> {
-    assert_eq!(rt; OBJECT.len(), 129);
-    let class = read_class(rt.alloc(), OBJECT)?;
+fn the_smallest_file(rt: HostRuntime) -> Result<(), Fail> {
+    assert_eq!(rt; OBJECT.len(), 46);
+    let class = read(&rt, OBJECT)?;
     assert_eq!(rt; class.name.as_slice(), b"java/lang/Object".as_slice());
     assert!(rt; class.superclass.is_none());
-    let names = [b"<init>".as_slice(), b"main".as_slice()];
-    assert_eq!(rt; class.methods.len(), names.len());
-    for (method, name) in class.methods.as_slice().iter().zip(&names) {
+    assert_eq!(rt; class.pool.len(), 3);
+    let faults = [
+        (cut_at(0), 0, Why::Cut),
+        (cut_at(10), 10, Why::Cut),
+        (cut_at(20), 16, Why::Cut),
+        (cut_at(45), 44, Why::Cut),
+        (
+            Change {
+                more: (46, b"\0"),
+                ..SAME
+            },
+            46,
+            Why::Trailing,
+        ),
+        (with(&[(16, 0)]), 16, Why::Utf8),
+        (with(&[(13, 2)]), 13, Why::Tag),
+        (with(&[(7, 0x35)]), 6, Why::Version),
+        (with(&[(37, 1)]), 36, Why::Super),
+        // No class, and an interface.
+        (with(&[(37, 2)]), 36, Why::Index),
+        (with(&[(32, 2)]), 36, Why::Super),
+    ];
+    for (change, place, why) in faults {
+        let bytes = changed(rt.alloc(), OBJECT, change)?;
+        assert!(rt; is_bad(&read(&rt, &bytes), place, why), "{place} {why:?}");
+    }
+    Ok(())
+}
+
+#[test]
+fn faults_of_files_and_pools(rt: HostRuntime) -> Result<(), Fail> {
+    let faults = [
+        (cut_at(3), 0, Why::Cut),
+        (cut_at(5), 4, Why::Cut),
+        (cut_at(9), 8, Why::Cut),
+        (cut_at(13), 13, Why::Cut),
+        (cut_at(95), 93, Why::Cut),
+        (cut_at(160), 157, Why::Cut),
+        (cut_at(200), 197, Why::Cut),
+        (cut_at(202), 201, Why::Cut),
+        (with(&[(200, 3)]), 201, Why::Cut),
+        (
+            Change {
+                more: (203, b"\0"),
+                ..SAME
+            },
+            203,
+            Why::Trailing,
+        ),
+        (with(&[(3, 0xbf)]), 0, Why::Magic),
+        (with(&[(7, 44)]), 6, Why::Version),
+        (with(&[(6, 1)]), 6, Why::Version),
+        (with(&[(9, 0)]), 8, Why::Index),
+        (with(&[(10, 2)]), 10, Why::Tag),
+        // No second place is left for a Long.
+        (with(&[(9, 15)]), 92, Why::Tag),
+        (with(&[(22, 0xf0)]), 22, Why::Utf8),
+        // A cut text comes before a wrong byte in it.
+        (
+            Change {
+                end: 14,
+                ..with(&[(12, 2), (13, 0)])
+            },
+            13,
+            Why::Cut,
+        ),
+        // A class named by a class, and by the second place of a Long; the first one counts.
+        (with(&[(16, 2)]), 15, Why::Index),
+        (with(&[(38, 15)]), 37, Why::Index),
+        (with(&[(16, 2), (38, 15)]), 15, Why::Index),
+        // The places of the pool come behind all its items.
+        (with(&[(16, 2), (101, 2)]), 101, Why::Tag),
+    ];
+    for (change, place, why) in faults {
+        let bytes = changed(rt.alloc(), BASE, change)?;
+        assert!(rt; is_bad(&read(&rt, &bytes), place, why), "{place} {why:?}");
+    }
+    Ok(())
+}
+
+#[test]
+fn faults_behind_the_pool(rt: HostRuntime) -> Result<(), Fail> {
+    let faults = [
+        (with(&[(108, 1)]), 107, Why::Index),
+        (with(&[(108, 0)]), 107, Why::Index),
+        (with(&[(13, b'.')]), 107, Why::Name),
+        (with(&[(110, 0)]), 109, Why::Super),
+        (with(&[(110, 1)]), 109, Why::Index),
+        (with(&[(105, 2), (106, 1), (110, 6)]), 109, Why::Super),
+        (with(&[(114, 5)]), 113, Why::Index),
+        (with(&[(120, 2)]), 119, Why::Index),
+        (with(&[(49, b'/')]), 119, Why::Name),
+        (with(&[(122, 2)]), 121, Why::Index),
+        (with(&[(122, 7)]), 121, Why::Descriptor),
+        (with(&[(122, 9)]), 121, Why::Descriptor),
+        (with(&[(136, 7), (138, 5)]), 137, Why::Twice),
+        (with(&[(126, 2)]), 125, Why::Index),
+        (with(&[(130, 3)]), 127, Why::Length),
+        (with(&[(132, 14)]), 131, Why::Constant),
+        (with(&[(132, 0)]), 131, Why::Constant),
+        (
+            Change {
+                bytes: &[(124, 2)],
+                more: (133, b"\0\x0b\0\0\0\x02\0\x0c"),
+                ..SAME
+            },
+            133,
+            Why::Twice,
+        ),
+        (with(&[(146, 2)]), 145, Why::Index),
+        (with(&[(53, b'<')]), 145, Why::Name),
+        (with(&[(148, 5)]), 147, Why::Descriptor),
+        (with(&[(188, 8)]), 189, Why::Twice),
+        // A native method with a code, and another without.
+        (with(&[(143, 1)]), 143, Why::Code),
+        (with(&[(185, 0)]), 185, Why::Code),
+        (with(&[(164, 0)]), 161, Why::Code),
+        (with(&[(162, 1), (164, 0)]), 161, Why::Code),
+        // The inside of a Code ends behind its length, in front of it, and in its handlers.
+        (with(&[(156, 0x1b)]), 153, Why::Length),
+        (with(&[(156, 0x1d)]), 153, Why::Length),
+        (with(&[(167, 9)]), 153, Why::Length),
+        (with(&[(179, 2)]), 178, Why::Index),
+        (with(&[(156, 0x1d), (179, 2)]), 178, Why::Index),
+        (with(&[(196, 2)]), 195, Why::Index),
+    ];
+    for (change, place, why) in faults {
+        let bytes = changed(rt.alloc(), BASE, change)?;
+        assert!(rt; is_bad(&read(&rt, &bytes), place, why), "{place} {why:?}");
+    }
+    Ok(())
+}
+
+#[test]
+fn what_is_not_looked_at(rt: HostRuntime) -> Result<(), Fail> {
+    let cases = [
+        ("as it is", SAME),
+        ("the minor version", with(&[(4, 1), (5, 2)])),
+        ("other flags", with(&[(105, 0x50)])),
+        (
+            "a ConstantValue of an instance field",
+            with(&[(118, 1), (132, 1)]),
+        ),
+        ("a handler's places", with(&[(168, 9), (175, 9)])),
+        ("a code's bytes", with(&[(165, 0xff)])),
+    ];
+    for (label, change) in cases {
+        let bytes = changed(rt.alloc(), BASE, change)?;
+        assert!(rt; read(&rt, &bytes).is_ok(), "{label}");
+    }
+    Ok(())
+}
+
+/// The parts are those that `javap -v` prints of the file.
+#[test]
+fn a_file_of_javac(rt: HostRuntime) -> Result<(), Fail> {
+    assert_eq!(rt; KEPT.len(), 504);
+    let class = read(&rt, KEPT)?;
+    assert_eq!(rt; class.name.as_slice(), b"p/Kept".as_slice());
+    assert_eq!(rt; class.flags, 0x0420);
+    assert_eq!(rt; class.major, 52);
+    assert_eq!(rt; class.pool.len(), 37);
+    assert!(rt;
+        matches!(&class.superclass, Some(name) if name.as_slice() == b"java/lang/Object".as_slice())
+    );
+    assert_eq!(rt; class.interfaces.len(), 1);
+    for name in class.interfaces.as_slice() {
+        assert_eq!(rt; name.as_slice(), b"java/lang/Runnable".as_slice());
+    }
+    let fields: [(&[u8], &[u8], u16, Option<u16>); 5] = [
+        (b"I", b"I", 0x0018, Some(18)),
+        (b"L", b"J", 0x0018, Some(21)),
+        (b"S", b"Ljava/lang/String;", 0x0018, Some(25)),
+        (b"D", b"D", 0x0018, Some(28)),
+        (b"inst", b"I", 0x0010, None),
+    ];
+    assert_eq!(rt; class.fields.len(), fields.len());
+    for (field, (name, desc, flags, constant)) in class.fields.as_slice().iter().zip(&fields) {
+        assert_eq!(rt; field.name.as_slice(), *name);
+        assert_eq!(rt; field.desc.as_slice(), *desc);
+        assert_eq!(rt; field.flags, *flags);
+        assert_eq!(rt; field.constant, *constant);
+    }
+    Ok(())
+}
+
+#[test]
+fn constants_of_javac(rt: HostRuntime) -> Result<(), Fail> {
+    let class = read(&rt, KEPT)?;
+    let pool = class.pool.as_slice();
+    assert_eq!(rt; pool.len(), 37);
+    assert!(rt; matches!(pool[0], PoolEntry::Unusable));
+    assert!(rt; matches!(pool[1], PoolEntry::Method(2, 3)));
+    assert!(rt; matches!(pool[2], PoolEntry::Class(4)));
+    assert!(rt; matches!(pool[3], PoolEntry::NameType(5, 6)));
+    assert!(rt; matches!(pool[7], PoolEntry::Field(8, 9)));
+    assert!(rt; matches!(pool[18], PoolEntry::Integer(-7)));
+    assert!(rt; matches!(pool[21], PoolEntry::Long(5000000000)));
+    assert!(rt; matches!(pool[22], PoolEntry::Unusable));
+    assert!(rt; matches!(pool[25], PoolEntry::Str(26)));
+    assert!(rt; matches!(pool[28], PoolEntry::Double(0x4004000000000000)));
+    Ok(())
+}
+
+#[test]
+fn methods_of_javac(rt: HostRuntime) -> Result<(), Fail> {
+    let class = read(&rt, KEPT)?;
+    let methods: [(&[u8], &[u8], u16, Option<(u16, u16, usize)>); 4] = [
+        (b"<init>", b"()V", 0x0000, Some((2, 1, 10))),
+        (b"f", b"(J[Ljava/lang/String;)I", 0x0008, Some((3, 4, 9))),
+        (b"g", b"()V", 0x0400, None),
+        (b"n", b"()V", 0x0100, None),
+    ];
+    assert_eq!(rt; class.methods.len(), methods.len());
+    for (method, (name, desc, flags, code)) in class.methods.as_slice().iter().zip(&methods) {
         assert_eq!(rt; method.name.as_slice(), *name);
-    }
-    Ok(())
-}
-
-#[test]
-fn other_files(rt: HostRuntime) -> Result<(), Fail> {
-    let a = a_class();
-    let cases = [
-        ("a byte more", File { end: b"\0", ..a }),
-        ("a 0 in a text", File { name: b"A\0", ..a }),
-        (
-            "wrong magic",
-            File {
-                magic: 0xCAFEBABF,
-                ..a
-            },
-        ),
-        ("a later version", File { major: 53, ..a }),
-        ("an earlier version", File { major: 44, ..a }),
-        (
-            "a float",
-            File {
-                constant: b"\x04\0\0\0\0",
-                ..a
-            },
-        ),
-        (
-            "no constant",
-            File {
-                constant: b"\x02\0\0",
-                ..a
-            },
-        ),
-        (
-            "a field",
-            File {
-                fields: &[0, 1, 0, 8, 0, 5, 0, 6, 0, 0],
-                ..a
-            },
-        ),
-        ("an interface", File { flags: 0x0601, ..a }),
-        (
-            "a handler",
-            File {
-                method: Method {
-                    handlers: 1,
-                    ..MAIN
-                },
-                ..a
-            },
-        ),
-        (
-            "a method twice",
-            File {
-                method: Method { times: 2, ..MAIN },
-                ..a
-            },
-        ),
-        ("a method of an object", File { method: INIT, ..a }),
-        (
-            "no local for the object",
-            an_object(
-                b"<init>",
-                Method {
-                    max_locals: 0,
-                    ..INIT
-                },
-            ),
-        ),
-        (
-            "a class that is refused",
-            File {
-                name: b"java/lang/Thread",
-                ..a
-            },
-        ),
-        (
-            "an object made of an int",
-            File {
-                desc: b"()I",
-                ..an_object(
-                    b"<init>",
-                    Method {
-                        max_stack: 1,
-                        code: b"\x06\xac",
-                        ..INIT
-                    },
-                )
-            },
-        ),
-        (
-            "a static constructor",
-            File {
-                method_name: b"<init>",
-                ..a
-            },
-        ),
-        (
-            "an initializer",
-            File {
-                method_name: b"<clinit>",
-                ..a
-            },
-        ),
-        ("a long", File { desc: b"()J", ..a }),
-        (
-            "a name with a slash",
-            File {
-                method_name: b"a/b",
-                ..a
-            },
-        ),
-        ("no superclass", File { superclass: 0, ..a }),
-    ];
-    for (label, file) in &cases {
-        let bytes = bytes_of(rt.alloc(), file)?;
-        assert!(rt; is_unbuilt(&rt, &bytes), "{label}");
-    }
-    Ok(())
-}
-
-#[test]
-fn codes_of_the_form(rt: HostRuntime) -> Result<(), Fail> {
-    let cases = [
-        ("-1", of_int(1, b"\x02\xac")),
-        ("0", of_int(1, b"\x03\xac")),
-        ("1", of_int(1, b"\x04\xac")),
-        ("2", of_int(1, b"\x05\xac")),
-        ("3", of_int(1, b"\x06\xac")),
-        ("4", of_int(1, b"\x07\xac")),
-        ("5", of_int(1, b"\x08\xac")),
-        (
-            "calls",
-            File {
-                callee: b"()V",
-                ..of_void(0, b"\xb8\0\x0b\xb8\0\x0b\xb1")
-            },
-        ),
-        ("the int of a call", of_int(1, b"\xb8\0\x0b\xac")),
-        ("a full stack", of_void(2, b"\x06\xb8\0\x0b\xb1")),
-        ("ints left at a return", of_void(2, b"\x06\x07\xb1")),
-        ("an int left below another", of_int(2, b"\x06\x07\xac")),
-        (
-            "instructions that are not reached",
-            of_void(0, b"\xb1\x06\xac\xb8\0\x0b\xb1\x04"),
-        ),
-        (
-            "a call with an argument that is not reached",
-            File {
-                callee: b"(I)V",
-                ..of_void(0, b"\xb1\xb8\0\x0b")
-            },
-        ),
-    ];
-    for (label, file) in &cases {
-        let bytes = bytes_of(rt.alloc(), file)?;
-        assert!(rt; bytes.len() < 1000);
-        let class = read_class(rt.alloc(), &bytes)?;
-        assert_eq!(rt; class.methods.len(), 1, "{label}");
-        for method in class.methods.as_slice() {
-            assert_eq!(rt; method.desc.as_slice(), file.desc, "{label}");
-            assert!(rt; method.code.is_some(), "{label}");
-            if let Some(code) = &method.code {
-                assert_eq!(rt; code.max_stack, file.method.max_stack, "{label}");
-                assert_eq!(rt; code.code.as_slice(), file.method.code, "{label}");
+        assert_eq!(rt; method.desc.as_slice(), *desc);
+        assert_eq!(rt; method.flags, *flags);
+        let found = match &method.code {
+            Some(code) => Some((code.max_stack, code.max_locals, code.code.as_slice().len())),
+            None => None,
+        };
+        assert_eq!(rt; found, *code);
+        if let Some(code) = &method.code {
+            for handler in code.table.as_slice() {
+                assert_eq!(rt; handler.start, 0);
+                assert_eq!(rt; handler.end, 5);
+                assert_eq!(rt; handler.target, 6);
+                assert_eq!(rt; handler.catch_class, 13);
             }
         }
-    }
-    Ok(())
-}
-
-#[test]
-fn other_codes(rt: HostRuntime) -> Result<(), Fail> {
-    let cases = [
-        ("no code", of_void(0, b"")),
-        ("no return", of_void(1, b"\x03")),
-        (
-            "no return behind a call",
-            File {
-                callee: b"()V",
-                ..of_void(0, b"\xb8\0\x0b")
-            },
-        ),
-        ("no int to return", of_int(1, b"\xac")),
-        ("an int where none is returned", of_void(1, b"\x06\xac")),
-        ("no int where one is returned", of_int(0, b"\xb1")),
-        ("an int and no room", of_int(0, b"\x06\xac")),
-        ("two ints and room for one", of_void(1, b"\x06\x07\xb1")),
-        ("a call and no room", of_int(0, b"\xb8\0\x0b\xac")),
-        ("a call behind an int", of_void(1, b"\x06\xb8\0\x0b\xb1")),
-        ("a call of no method", of_void(1, b"\xb8\0\x0a\xb1")),
-        ("a call of place 0", of_void(1, b"\xb8\0\0\xb1")),
-        ("a call behind the pool", of_void(1, b"\xb8\x01\x0b\xb1")),
-        (
-            "a call of no method that is not reached",
-            of_void(0, b"\xb1\xb8\0\x0a"),
-        ),
-        (
-            "a call with an argument",
-            File {
-                callee: b"(I)V",
-                ..of_void(1, b"\x06\xb8\0\x0b\xb1")
-            },
-        ),
-        ("nop", of_void(0, b"\0\xb1")),
-        ("nop that is not reached", of_void(0, b"\xb1\0")),
-        ("bipush", of_void(1, b"\x10\x05\xb1")),
-        ("bipush that is not reached", of_void(0, b"\xb1\x10\x05")),
-        ("a cut call", of_void(1, b"\xb8\0")),
-        ("a cut call that is not reached", of_void(0, b"\xb1\xb8\0")),
-        ("a call's first byte", of_void(0, b"\xb1\xb8")),
-    ];
-    for (label, file) in &cases {
-        let bytes = bytes_of(rt.alloc(), file)?;
-        assert!(rt; is_unbuilt(&rt, &bytes), "{label}");
-    }
-    Ok(())
-}
-
-#[test]
-fn instructions(rt: HostRuntime) -> Result<(), Fail> {
-    let found = operations(rt.alloc(), b"\x02\x08\xb8\x01\x02\xac\xb1")?;
-    let wanted = [
-        (0, Operation::IntConstant(-1)),
-        (1, Operation::IntConstant(5)),
-        (2, Operation::InvokeStatic(258)),
-        (5, Operation::IntReturn),
-        (6, Operation::Return),
-    ];
-    assert!(rt; found.is_some());
-    if let Some(found) = found {
-        assert_eq!(rt; found.len(), wanted.len());
-        for (placed, (pc, operation)) in found.iter().zip(&wanted) {
-            assert_eq!(rt; placed.pc, *pc);
-            assert_eq!(rt; placed.operation, *operation);
-        }
-    }
-    Ok(())
-}
-
-#[test]
-fn cut_files(rt: HostRuntime) -> Result<(), Fail> {
-    let bytes = bytes_of(rt.alloc(), &a_class())?;
-    for end in 0..bytes.len() {
-        assert!(rt; is_unbuilt(&rt, &bytes[..end]), "cut at {end}");
     }
     Ok(())
 }

@@ -1,24 +1,21 @@
 //! The class itself (JVMS 4.1).
 
-ghost use Rattle.std.specs.Prelude.{◌≡◌, ◌==◌, not, ◌&&◌, ◌||◌, length, nat_le, ◌<◌, ◌^◌, ◌∷◌, true, false, IfOk, OnOk, Err};
-ghost use Rattle.std.specs.List.{list_all};
+ghost use Rattle.std.specs.Prelude.{◌≡◌, not, ◌&&◌, ◌||◌, length, nat_le, ◌<◌, ◌^◌};
 ghost use Rattle.std.specs.Str.{bytes_eq};
-ghost use Rattle.wf_base.specs.declared.class_info.PoolEntry.TheVariants.{Unusable};
-ghost use Rattle.wf_base.specs.ClassFile.{is_interface, is_sound};
+ghost use Rattle.wf_base.specs.ClassFile.{is_interface};
 ghost use Rattle.wf_base.specs.Names.{object_name};
-ghost use Rattle.wf_base.specs.Reading.{super_class, class_named, class_behind, class_file, class_of};
-ghost use Rattle.wf_classfile.specs.Readers.{Gives, GivesValue};
+ghost use Rattle.wf_base.specs.Reading.{many, super_class, class_named, class_behind, class_file, class_of};
+ghost use Rattle.wf_constpool.specs.Readers.{Gives, GivesAs, GivesValue};
 
-use super::Reader;
-use crate::fault::ClassFault;
-use crate::flags::is_interface;
+use super::{Reader, bad};
 use crate::keys::Keys;
-use crate::names::{is_class_name, is_object_name};
-use crate::pool::{are_sound, class_at};
 use std::alloc::Global;
-use wf_base::{ClassInfo, Cursor, FieldInfo, Items, PoolEntry, Text};
+use wf_base::{
+    ClassInfo, Cursor, Items, PoolEntry, Text, Why, is_class_name, is_interface, is_object_name,
+};
+use wf_constpool::{ClassFault, class_at, read_pool};
 
-const MAGIC: u32 = 0xCAFEBABE;
+pub const MAGIC: u32 = 0xCAFEBABE;
 
 impl<'a> Reader<'a> {
     #[tactic(auto, unfolding(wf_base::specs::Reading::super_class))]
@@ -30,16 +27,17 @@ impl<'a> Reader<'a> {
     ) -> Result<Option<Text>, ClassFault>
         ensures { Gives self.new.cursor result (super_class pool.now flags name.now self.old.cursor) }
     {
+        let at = self.at();
         let place = self.u2()?;
         if place == 0 {
             if !may_be_root(flags, name) {
-                return Err(ClassFault::Unbuilt);
+                return Err(bad(at, Why::Super));
             }
             return Ok(None);
         }
-        let superclass = class_at(pool, place).ok_or(ClassFault::Unbuilt)?;
+        let superclass = class_at(pool, place).ok_or(bad(at, Why::Index))?;
         if !may_extend(flags, name, superclass) {
-            return Err(ClassFault::Unbuilt);
+            return Err(bad(at, Why::Super));
         }
         Ok(Some(Text::from_slice(self.alloc, superclass)?))
     }
@@ -48,38 +46,56 @@ impl<'a> Reader<'a> {
     fn class_named(&mut self, pool: &[PoolEntry]) -> Result<Text, ClassFault>
         ensures { Gives self.new.cursor result (class_named pool.now self.old.cursor) }
     {
+        let at = self.at();
         let place = self.u2()?;
-        let name = class_at(pool, place).ok_or(ClassFault::Unbuilt)?;
+        let name = class_at(pool, place).ok_or(bad(at, Why::Index))?;
         Ok(Text::from_slice(self.alloc, name)?)
     }
 
+    #[tactic(auto, using(wf_base::proofs::Loops::goes_on, wf_constpool::proofs::Loops::ends, wf_base::proofs::Loops::is_done))]
+    fn interfaces(&mut self, pool: &[PoolEntry], count: u16) -> Result<Vec<Text>, ClassFault>
+        ensures { GivesAs (λ interfaces. interfaces.items) self.new.cursor result (many (class_named pool.now) count self.old.cursor) }
+    {
+        let mut interfaces = Vec::new(self.alloc);
+        for _ in 0..count {
+            interfaces.push(self.class_named(pool)?)?;
+        }
+        Ok(interfaces)
+    }
+
     /// What follows the pool.
-    #[tactic(auto, unfolding(wf_base::specs::Reading::class_behind, wf_base::specs::Reading::counted))]
-    fn class_behind(&mut self, major: u16, pool: Vec<PoolEntry>) -> Result<ClassInfo, ClassFault>
-        ensures { Gives self.new.cursor result (class_behind major pool.items self.old.cursor) }
+    #[tactic(auto, unfolding(wf_base::specs::Reading::class_behind, wf_base::specs::Reading::counted, wf_base::specs::Reading::counted_on))]
+    fn class_behind(&mut self, major: u16, pool: Items<PoolEntry>) -> Result<ClassInfo, ClassFault>
+        ensures { Gives self.new.cursor result (class_behind major pool self.old.cursor) }
     {
         let flags = self.u2()?;
-        let name = self.class_named(&pool)?;
+        let at = self.at();
+        let name = self.class_named(pool.as_slice())?;
         if !is_class_name(name.as_slice()) {
-            return Err(ClassFault::Unbuilt);
+            return Err(bad(at, Why::Name));
         }
-        let superclass = self.super_class(&pool, flags, name.as_slice())?;
-        let interfaces = self.no_items::<Text>()?;
-        let fields = self.no_items::<FieldInfo>()?;
+        let superclass = self.super_class(pool.as_slice(), flags, name.as_slice())?;
+        let count = self.u2()?;
+        let interfaces = self.interfaces(pool.as_slice(), count)?;
         let count = self.u2()?;
         let mut met = Keys::new(self.alloc);
-        let methods = self.methods(&pool, &mut met, count)?;
+        let fields = self.fields(pool.as_slice(), &mut met, count)?;
+        drop(met);
+        let count = self.u2()?;
+        let mut met = Keys::new(self.alloc);
+        let methods = self.methods(pool.as_slice(), &mut met, count)?;
         // The keys borrow from the pool, which moves into the class.
         drop(met);
-        self.no_items::<()>()?;
+        let count = self.u2()?;
+        self.skip_attributes(pool.as_slice(), count)?;
         Ok(ClassInfo {
             name,
             superclass,
-            interfaces,
+            interfaces: Items::from_vec(interfaces),
             flags,
             major,
-            pool: Items::from_vec(pool),
-            fields,
+            pool,
+            fields: Items::from_vec(fields),
             methods: Items::from_vec(methods),
         })
     }
@@ -89,20 +105,17 @@ impl<'a> Reader<'a> {
     fn class_file(&mut self) -> Result<ClassInfo, ClassFault>
         ensures { Gives self.new.cursor result (class_file self.old.cursor) }
     {
+        let at = self.at();
         if self.u4()? != MAGIC {
-            return Err(ClassFault::Unbuilt);
+            return Err(bad(at, Why::Magic));
         }
         let _minor = self.u2()?;
+        let at = self.at();
         let major = self.u2()?;
         if !is_known_version(major) {
-            return Err(ClassFault::Unbuilt);
+            return Err(bad(at, Why::Version));
         }
-        let count = self.u2()?;
-        if count == 0 {
-            return Err(ClassFault::Unbuilt);
-        }
-        let entries = self.pool_entries(count - 1)?;
-        let pool = pool_of(entries)?;
+        let pool = read_pool(self.alloc, &mut self.cursor)?;
         self.class_behind(major, pool)
     }
 }
@@ -119,40 +132,26 @@ pub fn class_of(alloc: Global, bytes: &[u8]) -> Result<ClassInfo, ClassFault>
     };
     let class = reader.class_file()?;
     if !reader.cursor.is_done() {
-        return Err(ClassFault::Unbuilt);
+        return Err(bad(reader.at(), Why::Trailing));
     }
     Ok(class)
 }
 
-/// The pool of these constants, if each is sound in it. No constant has place 0.
-fn pool_of(entries: Vec<PoolEntry>) -> Result<Vec<PoolEntry>, ClassFault>
-    ensures pool { IfOk result (λ pool. pool.items ≡ Unusable ∷ entries.items) }
-    ensures sound { OnOk result (list_all (is_sound (Unusable ∷ entries.items)) entries.items ≡ true) }
-    ensures unsound { result ≡ Err ClassFault.Unbuilt → list_all (is_sound (Unusable ∷ entries.items)) entries.items ≡ false }
-{
-    let mut pool = entries;
-    pool.insert(0, PoolEntry::Unusable)?;
-    if !are_sound(&pool) {
-        return Err(ClassFault::Unbuilt);
-    }
-    Ok(pool)
-}
-
 /// Whether a class of these flags and this name may have no superclass.
-fn may_be_root(flags: u16, name: &[u8]) -> bool
+pub fn may_be_root(flags: u16, name: &[u8]) -> bool
     ensures { result ≡ (bytes_eq name.now object_name && not (is_interface flags)) }
 {
     is_object_name(name) && !is_interface(flags)
 }
 
 /// Whether it may have this superclass.
-fn may_extend(flags: u16, name: &[u8], superclass: &[u8]) -> bool
+pub fn may_extend(flags: u16, name: &[u8], superclass: &[u8]) -> bool
     ensures { result ≡ (not (bytes_eq name.now object_name) && (not (is_interface flags) || bytes_eq superclass.now object_name)) }
 {
     !is_object_name(name) && (!is_interface(flags) || is_object_name(superclass))
 }
 
-fn is_known_version(major: u16) -> bool
+pub fn is_known_version(major: u16) -> bool
     ensures { result ≡ (nat_le 45 major && nat_le major 52) }
 {
     45 <= major && major <= 52

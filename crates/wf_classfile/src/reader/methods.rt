@@ -1,20 +1,19 @@
 //! Methods and their code (JVMS 4.6, 4.7.3).
 
-ghost use Rattle.std.specs.Prelude.{◌≡◌, ℕ, not, ◌&&◌, ◌==◌, nat_lt, IfOk};
+ghost use Rattle.std.specs.Prelude.{◌≡◌, not, ◌&&◌, ◌==◌, nat_lt, IfOk};
 ghost use Rattle.std.specs.List.{filter_map};
-ghost use Rattle.std.specs.Str.{bytes_eq};
-ghost use Rattle.wf_base.specs.ClassFile.{only_code, is_method_descriptor, is_native_or_abstract};
+ghost use Rattle.wf_base.specs.ClassFile.{only_code, parameter_slots};
 ghost use Rattle.wf_base.specs.Reading.{many, many_on, whole, handler, code, method_attribute_as, method_attribute, method};
-ghost use Rattle.wf_classfile.specs.Readers.{Gives, GivesAs, GivesValue};
+ghost use Rattle.wf_constpool.specs.Readers.{Gives, GivesAs, GivesValue};
 
-use super::Reader;
-use crate::fault::ClassFault;
-use crate::flags::is_native_or_abstract;
+use super::{Reader, bad};
 use crate::keys::Keys;
-use crate::names::is_method_name;
-use crate::pool::text_at;
 use std::alloc::{AllocError, Global};
-use wf_base::{CodeInfo, Handler, Items, MethodInfo, PoolEntry, Text};
+use wf_base::{
+    CodeInfo, Handler, Items, MethodInfo, PoolEntry, Text, Why, is_method_descriptor,
+    is_method_name, is_native_or_abstract, is_static,
+};
+use wf_constpool::{ClassFault, text_at};
 
 impl<'a> Reader<'a> {
     #[tactic(auto, unfolding(wf_base::specs::Reading::handler))]
@@ -33,7 +32,7 @@ impl<'a> Reader<'a> {
         })
     }
 
-    #[tactic(auto, using(crate::proofs::Many::goes_on, crate::proofs::Many::ends, crate::proofs::Many::is_done))]
+    #[tactic(auto, using(wf_base::proofs::Loops::goes_on, wf_constpool::proofs::Loops::ends, wf_base::proofs::Loops::is_done))]
     fn handlers(&mut self, count: u16) -> Result<Vec<Handler>, ClassFault>
         ensures { GivesAs (λ table. table.items) self.new.cursor result (many handler count self.old.cursor) }
     {
@@ -45,20 +44,22 @@ impl<'a> Reader<'a> {
     }
 
     /// The inside of a Code attribute (JVMS 4.7.3).
-    #[tactic(auto, unfolding(wf_base::specs::Reading::code, wf_base::specs::Reading::counted))]
-    fn code(&mut self) -> Result<CodeInfo, ClassFault>
-        ensures { Gives self.new.cursor result (code self.old.cursor) }
+    #[tactic(auto, unfolding(wf_base::specs::Reading::code, wf_base::specs::Reading::counted, wf_base::specs::Reading::counted_on))]
+    fn code(&mut self, pool: &[PoolEntry]) -> Result<CodeInfo, ClassFault>
+        ensures { Gives self.new.cursor result (code pool.now self.old.cursor) }
     {
         let max_stack = self.u2()?;
         let max_locals = self.u2()?;
+        let at = self.at();
         let size = self.u4()?;
         if !is_code_size(size) {
-            return Err(ClassFault::Unbuilt);
+            return Err(bad(at, Why::Code));
         }
         let code = self.run(size)?;
         let count = self.u2()?;
         let table = self.handlers(count)?;
-        self.no_items::<()>()?;
+        let count = self.u2()?;
+        self.skip_attributes(pool, count)?;
         Ok(CodeInfo {
             max_stack,
             max_locals,
@@ -67,40 +68,48 @@ impl<'a> Reader<'a> {
         })
     }
 
-    /// The inside of a Code attribute, all of it.
-    fn whole_code(mut self) -> Result<CodeInfo, ClassFault>
-        ensures { (at : ℕ) → GivesValue result (whole at (code self.entry.cursor)) }
+    /// The inside of a Code attribute, all of it. The attribute's length stands at a place.
+    fn whole_code(mut self, pool: &[PoolEntry], at: u32) -> Result<CodeInfo, ClassFault>
+        ensures { GivesValue result (whole at (code pool.now self.entry.cursor)) }
     {
-        let code = self.code()?;
-        if !self.cursor.is_done() {
-            return Err(ClassFault::Unbuilt);
+        match self.code(pool) {
+            Ok(code) if self.cursor.is_done() => Ok(code),
+            Ok(_) => Err(bad(at, Why::Length)),
+            Err(ClassFault::Bad { why: Why::Cut, .. }) => Err(bad(at, Why::Length)),
+            Err(fault) => Err(fault),
         }
-        Ok(code)
     }
 
-    /// The inside of an attribute of a method, by the attribute's name.
+    /// The inside of an attribute of a method, by whether it is a Code.
     #[tactic(auto, unfolding(wf_base::specs::Reading::method_attribute_as))]
-    fn method_attribute_as(self, name: &[u8]) -> Result<Option<CodeInfo>, ClassFault>
-        ensures { (at : ℕ) → GivesValue result (method_attribute_as name.now at self.entry.cursor) }
+    fn method_attribute_as(
+        self,
+        pool: &[PoolEntry],
+        is_code: bool,
+        at: u32,
+    ) -> Result<Option<CodeInfo>, ClassFault>
+        ensures { GivesValue result (method_attribute_as pool.now is_code at self.entry.cursor) }
     {
-        if name != b"Code".as_slice() {
-            return Err(ClassFault::Unbuilt);
+        if !is_code {
+            return Ok(None);
         }
-        Ok(Some(self.whole_code()?))
+        Ok(Some(self.whole_code(pool, at)?))
     }
 
     #[tactic(auto, unfolding(wf_base::specs::Reading::method_attribute))]
     fn method_attribute(&mut self, pool: &[PoolEntry]) -> Result<Option<CodeInfo>, ClassFault>
         ensures { Gives self.new.cursor result (method_attribute pool.now self.old.cursor) }
     {
+        let at = self.at();
         let place = self.u2()?;
-        let name = text_at(pool, place).ok_or(ClassFault::Unbuilt)?;
+        let name = text_at(pool, place).ok_or(bad(at, Why::Index))?;
+        let at = self.at();
         let size = self.u4()?;
         let inside = self.part(size)?;
-        inside.method_attribute_as(name)
+        inside.method_attribute_as(pool, name == b"Code".as_slice(), at)
     }
 
-    #[tactic(auto, using(crate::proofs::Many::goes_on, crate::proofs::Many::ends, crate::proofs::Many::is_done))]
+    #[tactic(auto, using(wf_base::proofs::Loops::goes_on, wf_constpool::proofs::Loops::ends, wf_base::proofs::Loops::is_done))]
     fn method_attributes(
         &mut self,
         pool: &[PoolEntry],
@@ -123,24 +132,27 @@ impl<'a> Reader<'a> {
     ) -> Result<MethodInfo, ClassFault>
         ensures { GivesAs (λ method. (method, met.new)) self.new.cursor result (method pool.now met.old self.old.cursor) }
     {
+        let start = self.at();
         let flags = self.u2()?;
+        let at = self.at();
         let place = self.u2()?;
-        let name = text_at(pool, place).ok_or(ClassFault::Unbuilt)?;
+        let name = text_at(pool, place).ok_or(bad(at, Why::Index))?;
         if !is_method_name(name) {
-            return Err(ClassFault::Unbuilt);
+            return Err(bad(at, Why::Name));
         }
+        let at = self.at();
         let place = self.u2()?;
-        let desc = text_at(pool, place).ok_or(ClassFault::Unbuilt)?;
-        if !is_method_descriptor(desc) {
-            return Err(ClassFault::Unbuilt);
+        let desc = text_at(pool, place).ok_or(bad(at, Why::Index))?;
+        if !is_method_descriptor(desc, parameter_slots(flags)) {
+            return Err(bad(at, Why::Descriptor));
         }
         if !met.insert(name, desc)? {
-            return Err(ClassFault::Unbuilt);
+            return Err(bad(at, Why::Twice));
         }
         let count = self.u2()?;
         let attributes = self.method_attributes(pool, count)?;
         let codes = codes_of(self.alloc, attributes)?;
-        let code = only_code(is_native_or_abstract(flags), codes).ok_or(ClassFault::Unbuilt)?;
+        let code = only_code(is_native_or_abstract(flags), codes).ok_or(bad(start, Why::Code))?;
         Ok(MethodInfo {
             name: Text::from_slice(self.alloc, name)?,
             desc: Text::from_slice(self.alloc, desc)?,
@@ -149,7 +161,7 @@ impl<'a> Reader<'a> {
         })
     }
 
-    #[tactic(auto, using(crate::proofs::Many::goes_on_on, crate::proofs::Many::ends_on, crate::proofs::Many::is_done_on))]
+    #[tactic(auto, using(wf_base::proofs::Loops::goes_on_on, wf_constpool::proofs::Loops::ends_on, wf_base::proofs::Loops::is_done_on))]
     pub fn methods<'p>(
         &mut self,
         pool: &'p [PoolEntry],
@@ -166,11 +178,12 @@ impl<'a> Reader<'a> {
     }
 }
 
-/// Whether the bytes are a method's descriptor (JVMS 4.3.3).
-fn is_method_descriptor(desc: &[u8]) -> bool
-    ensures { result ≡ is_method_descriptor desc.now }
+/// How many slots the parameters of a method with these flags may take: 255, and the object of an instance
+/// method takes one (JVMS 4.3.3).
+pub fn parameter_slots(flags: u16) -> u8
+    ensures { result ≡ parameter_slots flags }
 {
-    desc == b"()V".as_slice() || desc == b"()I".as_slice()
+    if is_static(flags) { 255 } else { 254 }
 }
 
 /// The codes among the attributes.

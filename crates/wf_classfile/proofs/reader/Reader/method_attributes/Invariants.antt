@@ -1,6 +1,6 @@
 use Rattle.std.proofs.Common.{◌≡◌, ◌-◌}
 use Rattle.wf_base.specs.Reading.{many, method_attribute}
-use Rattle.wf_classfile.proofs.Many.{with_front}
+use Rattle.wf_base.proofs.Loops.{with_front}
 use Rattle.wf_classfile.proofs.reader.Reader.method_attributes.Given as goal
 
 abbrev pub invariant-loop : goal.invariant-loop

@@ -1,0 +1,137 @@
+//! Fields and their constants (JVMS 4.5, 4.7.2).
+
+ghost use Rattle.std.specs.Prelude.{◌≡◌, None};
+ghost use Rattle.wf_base.specs.Reading.{constant_value, other_attribute, field_attribute, field, many_on, times};
+ghost use Rattle.wf_constpool.specs.Readers.{Gives, GivesAs};
+
+use super::{Reader, bad};
+use crate::constants::has_constant_of;
+use crate::keys::Keys;
+use wf_base::{FieldInfo, PoolEntry, Text, Why, is_field_descriptor, is_field_name, is_static};
+use wf_constpool::{ClassFault, text_at};
+
+impl<'a> Reader<'a> {
+    /// A ConstantValue behind its name, which stands at a place.
+    #[tactic(auto, unfolding(wf_base::specs::Reading::constant_value))]
+    fn constant_value(
+        &mut self,
+        pool: &[PoolEntry],
+        desc: &[u8],
+        constant: Option<u16>,
+        named_at: u32,
+    ) -> Result<Option<u16>, ClassFault>
+        ensures { Gives self.new.cursor result (constant_value pool.now desc.now constant named_at self.old.cursor) }
+    {
+        if constant.is_some() {
+            return Err(bad(named_at, Why::Twice));
+        }
+        let at = self.at();
+        if self.u4()? != 2 {
+            return Err(bad(at, Why::Length));
+        }
+        let at = self.at();
+        let place = self.u2()?;
+        if !has_constant_of(pool, desc, place) {
+            return Err(bad(at, Why::Constant));
+        }
+        Ok(Some(place))
+    }
+
+    /// Another attribute behind its name.
+    #[tactic(auto, unfolding(wf_base::specs::Reading::other_attribute))]
+    fn other_attribute(&mut self, constant: Option<u16>) -> Result<Option<u16>, ClassFault>
+        ensures { Gives self.new.cursor result (other_attribute constant self.old.cursor) }
+    {
+        let size = self.u4()?;
+        self.run(size)?;
+        Ok(constant)
+    }
+
+    /// An attribute of a field, behind those that left this constant.
+    #[tactic(auto, unfolding(wf_base::specs::Reading::field_attribute))]
+    fn field_attribute(
+        &mut self,
+        pool: &[PoolEntry],
+        is_static: bool,
+        desc: &[u8],
+        constant: Option<u16>,
+    ) -> Result<Option<u16>, ClassFault>
+        ensures { Gives self.new.cursor result (field_attribute pool.now is_static desc.now constant self.old.cursor) }
+    {
+        let at = self.at();
+        let place = self.u2()?;
+        let name = text_at(pool, place).ok_or(bad(at, Why::Index))?;
+        if is_static && name == b"ConstantValue".as_slice() {
+            self.constant_value(pool, desc, constant, at)
+        } else {
+            self.other_attribute(constant)
+        }
+    }
+
+    #[tactic(auto, using(wf_base::proofs::Loops::goes_on_times, wf_constpool::proofs::Loops::ends_times, wf_base::proofs::Loops::is_done_times))]
+    fn field_attributes(
+        &mut self,
+        pool: &[PoolEntry],
+        is_static: bool,
+        desc: &[u8],
+        count: u16,
+    ) -> Result<Option<u16>, ClassFault>
+        ensures { Gives self.new.cursor result (times (field_attribute pool.now is_static desc.now) count None self.old.cursor) }
+    {
+        let mut constant = None;
+        for _ in 0..count {
+            constant = self.field_attribute(pool, is_static, desc, constant)?;
+        }
+        Ok(constant)
+    }
+
+    #[tactic(auto, unfolding(wf_base::specs::Reading::field, wf_base::specs::Reading::counted_on))]
+    fn field<'p>(
+        &mut self,
+        pool: &'p [PoolEntry],
+        met: &mut Keys<'p>,
+    ) -> Result<FieldInfo, ClassFault>
+        ensures { GivesAs (λ field. (field, met.new)) self.new.cursor result (field pool.now met.old self.old.cursor) }
+    {
+        let flags = self.u2()?;
+        let at = self.at();
+        let place = self.u2()?;
+        let name = text_at(pool, place).ok_or(bad(at, Why::Index))?;
+        if !is_field_name(name) {
+            return Err(bad(at, Why::Name));
+        }
+        let at = self.at();
+        let place = self.u2()?;
+        let desc = text_at(pool, place).ok_or(bad(at, Why::Index))?;
+        if !is_field_descriptor(desc) {
+            return Err(bad(at, Why::Descriptor));
+        }
+        if !met.insert(name, desc)? {
+            return Err(bad(at, Why::Twice));
+        }
+        let count = self.u2()?;
+        let constant = self.field_attributes(pool, is_static(flags), desc, count)?;
+        Ok(FieldInfo {
+            name: Text::from_slice(self.alloc, name)?,
+            desc: Text::from_slice(self.alloc, desc)?,
+            flags,
+            constant,
+        })
+    }
+
+    #[tactic(auto, using(wf_base::proofs::Loops::goes_on_on, wf_constpool::proofs::Loops::ends_on, wf_base::proofs::Loops::is_done_on))]
+    pub fn fields<'p>(
+        &mut self,
+        pool: &'p [PoolEntry],
+        met: &mut Keys<'p>,
+        count: u16,
+    ) -> Result<Vec<FieldInfo>, ClassFault>
+        ensures { GivesAs (λ fields. (fields.items, met.new)) self.new.cursor result (many_on (field pool.now) count met.old self.old.cursor) }
+    {
+        let mut fields = Vec::new(self.alloc);
+        for _ in 0..count {
+            fields.push(self.field(pool, met)?)?;
+        }
+        Ok(fields)
+    }
+}
