@@ -6,7 +6,7 @@ use Rattle.wf_base.specs.declared.class_info.ClassInfo.{ClassInfo}
 use Rattle.wf_base.specs.declared.class_info.MethodInfo.{MethodInfo}
 use Rattle.wf_base.specs.declared.member.MemberName.{MemberName}
 use Rattle.wf_base.specs.ClassFile.{is_static}
-use Rattle.wf_classfile.specs.FirstForm.{is_first_form}
+use Rattle.world.specs.FirstForm.{is_first_form}
 use Rattle.wf_sys.specs.Names.{method_name}
 use Rattle.wf_sys.specs.Program.{DeclaresStatic}
 use Rattle.world.specs.Form.{AllOfForm}

@@ -13,9 +13,9 @@ use Rattle.wf_base.specs.declared.member.MemberName.{MemberName}
 use Rattle.wf_base.specs.ClassFile.{is_static}
 use Rattle.wf_base.specs.Members.{same_member}
 use Rattle.wf_base.specs.NameForm.{member_of}
-use Rattle.wf_classfile.specs.declared.code.Placed.{Placed}
-use Rattle.wf_classfile.specs.Code.{operations}
-use Rattle.wf_classfile.specs.FirstForm.{are_of_form, are_found_of_form, is_code_of_form, is_kind_of_form, has_code_of_form, is_method_of_form, is_class_of_form}
+use Rattle.world.specs.declared.code.Placed.{Placed}
+use Rattle.world.specs.Code.{operations}
+use Rattle.world.specs.FirstForm.{are_of_form, are_found_of_form, is_code_of_form, is_kind_of_form, has_code_of_form, is_method_of_form, is_class_of_form}
 use Rattle.wf_sys.specs.Names.{method_name}
 use Rattle.wf_sys.specs.Program.{DeclaresStatic, HasCode}
 use Rattle.world.specs.Calls.{statics_in, statics_of, has_member, calls_known, found_call_known, code_calls_known, class_calls_known}

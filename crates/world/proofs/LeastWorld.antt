@@ -9,7 +9,7 @@ use Rattle.wf_base.specs.declared.class_info.ClassInfo.{ClassInfo}
 use Rattle.wf_base.specs.declared.class_info.FieldInfo.{FieldInfo}
 use Rattle.wf_base.specs.declared.class_info.MethodInfo.{MethodInfo}
 use Rattle.wf_base.specs.declared.member.MemberName.{MemberName}
-use Rattle.wf_classfile.specs.FirstForm.{is_first_form}
+use Rattle.world.specs.FirstForm.{is_first_form}
 use Rattle.wf_sys.specs.declared.flow.Flow.{Flow}
 use Rattle.wf_sys.specs.declared.flow.Flow.TheVariants.{Empty, Set, Is, Any}
 use Rattle.wf_sys.specs.Values.{is_empty, IsNonEmpty, HoldsType}

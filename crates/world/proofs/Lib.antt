@@ -1,3 +1,4 @@
+mod CodeLaws
 mod EachLaws
 mod FaultLaws
 mod ListLaws

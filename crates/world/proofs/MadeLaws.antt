@@ -1,5 +1,5 @@
 -- Of which calls a read fault comes.
-use Rattle.std.proofs.Common.{◌≡◌, ℕ, suc, ◌+◌, ◌-◌, ◌<◌, ◌≤◌, Bool, true, false, List, [], ◌∷◌, ◌++◌, length, get_or, drop, Option, Some, Result, Ok, Err, refl, sym, ap, ◌∙◌, subst, add-one, drop-cons, arith}
+use Rattle.std.proofs.Common.{◌≡◌, ℕ, suc, ◌+◌, ◌-◌, ◌<◌, ◌≤◌, Bool, true, false, List, [], ◌∷◌, ◌++◌, length, get_or, drop, Option, Some, Result, Ok, Err, refl, sym, ap, ◌∙◌, subst, add-one, drop-cons, inl, inr, arith}
 use Rattle.std.specs.Prelude.{Contains, IfErr}
 use Rattle.std.proofs.lemmas.Bool.{le-ltb}
 use Rattle.std.proofs.lemmas.List.Elements.{Contains-append_left, Contains-append_right}
@@ -11,7 +11,7 @@ use Rattle.wf_io.specs.declared.tree.MemFile.{MemFile}
 use Rattle.wf_io.specs.Tree.{listing}
 use Rattle.world.specs.declared.limits.TheConstants.{MAX_DEPTH, MAX_ENTRIES}
 use Rattle.world.specs.declared.fault.RunFault.{RunFault}
-use Rattle.world.specs.declared.fault.RunFault.TheVariants.{Unbuilt, ReadFault, WriteFault, NoMemory}
+use Rattle.world.specs.declared.fault.RunFault.TheVariants.{Unbuilt, BadClass, ReadFault, WriteFault, NoMemory}
 use Rattle.world.specs.declared.walk.Walked.{Walked}
 use Rattle.world.specs.Command.{IsCommand}
 use Rattle.world.specs.Faults.{IsOwn}
@@ -30,6 +30,7 @@ IsWithin calls more = (c : Call) → Contains calls c → Contains more c
 -- what comes of some calls comes of more
 pub of_more : (calls more : List Call) (last : Option Call) (e : RunFault) → IsOfCalls calls last e → IsWithin calls more → IsOfCalls more last e
 of_more calls more last Unbuilt h within = tt
+of_more calls more last (BadClass file offset why) h within = tt
 of_more calls more last (ReadFault path) h within = record { failed = h.failed; is = h.is; made = within h.failed h.made }
 of_more calls more last WriteFault h within = tt
 of_more calls more last NoMemory h within = tt
@@ -37,6 +38,7 @@ of_more calls more last NoMemory h within = tt
 -- a fault of no object comes of any
 pub of_own : (calls : List Call) (last : Option Call) (e : RunFault) → IsOwn e → IsOfCalls calls last e
 of_own calls last Unbuilt h = tt
+of_own calls last (BadClass file offset why) h = tt
 of_own calls last (ReadFault path) h = absurd h
 of_own calls last WriteFault h = tt
 of_own calls last NoMemory h = tt
@@ -52,6 +54,7 @@ more_result calls more last (Err e) h within = of_more calls more last e h withi
 -- the one call that was made
 pub of_only : (c : Call) (last : Option Call) (e : RunFault) → last ≡ Some c → IsOfCalls (c ∷ []) last e
 of_only c last Unbuilt h = tt
+of_only c last (BadClass file offset why) h = tt
 of_only c last (ReadFault path) h = record { failed = c; is = h; made = contains_head c [] }
 of_only c last WriteFault h = tt
 of_only c last NoMemory h = tt
@@ -59,7 +62,7 @@ of_only c last NoMemory h = tt
 -- ---- going over a list
 
 -- the calls of the next element, and those behind it
-each_calls-next : {X S : Type 0} (calls : X → S → List Call) (f : X → S → Option S) (xs : List X) (i : ℕ) (x : X) (s : S) → i < length xs → x ≡ get_or xs i x
+each_calls-next : {X S : Type 0} (calls : X → S → List Call) (f : X → S → Result S RunFault) (xs : List X) (i : ℕ) (x : X) (s : S) → i < length xs → x ≡ get_or xs i x
     → each_calls calls f (drop i xs) s ≡ calls x s ++ calls_behind (each_calls calls f (drop (i + 1) xs)) (f x s)
 each_calls-next calls f xs i x s lt is =
     let cut : drop i xs ≡ get_or xs i x ∷ drop (i + 1) xs = rw (add-one, drop-cons xs i x) refl in
@@ -67,15 +70,15 @@ each_calls-next calls f xs i x s lt is =
     ap (λ ys. each_calls calls f ys s) here
 
 -- those of the next element are among them
-pub calls_here : {X S : Type 0} (calls : X → S → List Call) (f : X → S → Option S) (xs : List X) (i : ℕ) (x : X) (s : S) (whole : List Call) → i < length xs → x ≡ get_or xs i x
+pub calls_here : {X S : Type 0} (calls : X → S → List Call) (f : X → S → Result S RunFault) (xs : List X) (i : ℕ) (x : X) (s : S) (whole : List Call) → i < length xs → x ≡ get_or xs i x
     → IsWithin (each_calls calls f (drop i xs) s) whole → IsWithin (calls x s) whole
 calls_here calls f xs i x s whole lt is within = λ c h.
     let behind = calls_behind (each_calls calls f (drop (i + 1) xs)) (f x s) in
     within c (subst (λ (cs : List Call). Contains cs c) (sym (each_calls-next calls f xs i x s lt is)) (Contains-append_left (calls x s) behind c h))
 
 -- and where it isn't refused, so are those behind it
-pub calls_go_on : {X S : Type 0} (calls : X → S → List Call) (f : X → S → Option S) (xs : List X) (i : ℕ) (x : X) (s t : S) (whole : List Call) → i < length xs → x ≡ get_or xs i x
-    → IsWithin (each_calls calls f (drop i xs) s) whole → f x s ≡ Some t → IsWithin (each_calls calls f (drop (i + 1) xs) t) whole
+pub calls_go_on : {X S : Type 0} (calls : X → S → List Call) (f : X → S → Result S RunFault) (xs : List X) (i : ℕ) (x : X) (s t : S) (whole : List Call) → i < length xs → x ≡ get_or xs i x
+    → IsWithin (each_calls calls f (drop i xs) s) whole → f x s ≡ Ok t → IsWithin (each_calls calls f (drop (i + 1) xs) t) whole
 calls_go_on calls f xs i x s t whole lt is within step = λ c h.
     let rest = each_calls calls f (drop (i + 1) xs) in
     let same : each_calls calls f (drop i xs) s ≡ calls x s ++ rest t = each_calls-next calls f xs i x s lt is ∙ ap (λ o. calls x s ++ calls_behind rest o) step in
@@ -112,21 +115,21 @@ calls_of_entries files depth top dir w entries deep is few = λ c h.
 -- ---- the whole run
 
 -- the calls behind a step that isn't refused
-behind : {S : Type 0} (first : List Call) (calls : S → List Call) (o : Option S) (s : S) → o ≡ Some s → IsWithin (calls s) (first ++ calls_behind calls o)
-behind {S = S} first calls o s is = λ c h. subst (λ (p : Option S). Contains (first ++ calls_behind calls p) c) (sym is) (Contains-append_right first (calls s) c h)
+behind : {S : Type 0} (first : List Call) (calls : S → List Call) (o : Result S RunFault) (s : S) → o ≡ Ok s → IsWithin (calls s) (first ++ calls_behind calls o)
+behind {S = S} first calls o s is = λ c h. subst (λ (p : Result S RunFault). Contains (first ++ calls_behind calls p) c) (sym is) (Contains-append_right first (calls s) c h)
 
 -- the walk's calls are of the run
 pub walk_of_run : (files : List MemFile) (roots dir : List ℕ) → IsWithin (walk_calls files (MAX_DEPTH + 1) true dir at_start) (calls_of files roots dir)
 walk_of_run files roots dir = λ c h. Contains-append_left _ _ c h
 
 -- those of the noted files too
-pub classes_of_run : (files : List MemFile) (roots dir : List ℕ) (paths : List (List ℕ)) → noted_from files dir ≡ Some paths → IsWithin (classes_calls files dir paths) (calls_of files roots dir)
+pub classes_of_run : (files : List MemFile) (roots dir : List ℕ) (paths : List (List ℕ)) → noted_from files dir ≡ Ok paths → IsWithin (classes_calls files dir paths) (calls_of files roots dir)
 classes_of_run files roots dir paths noted = λ c h.
     behind (walk_calls files (MAX_DEPTH + 1) true dir at_start) (noted_calls files roots dir) (noted_from files dir) paths noted c
     (Contains-append_left _ _ c h)
 
 -- and that of the roots file
-pub roots_of_run : (files : List MemFile) (roots dir : List ℕ) (paths : List (List ℕ)) (classes : List ClassInfo) → noted_from files dir ≡ Some paths → classes_of files dir paths ≡ Some classes
+pub roots_of_run : (files : List MemFile) (roots dir : List ℕ) (paths : List (List ℕ)) (classes : List ClassInfo) → noted_from files dir ≡ Ok paths → classes_of files dir paths ≡ Ok classes
     → IsWithin (roots_calls roots classes) (calls_of files roots dir)
 roots_of_run files roots dir paths classes noted read = λ c h.
     behind (walk_calls files (MAX_DEPTH + 1) true dir at_start) (noted_calls files roots dir) (noted_from files dir) paths noted c
@@ -135,6 +138,7 @@ roots_of_run files roots dir paths classes noted read = λ c h.
 -- a fault of no object, in a whole run
 pub own_of_run : (files : List MemFile) (words : List (List ℕ)) (last : Option Call) (e : RunFault) → IsOwn e → IsOfRun files words last e
 own_of_run files words last Unbuilt h = tt
+own_of_run files words last (BadClass file offset why) h = tt
 own_of_run files words last (ReadFault path) h = absurd h
 own_of_run files words last WriteFault h = tt
 own_of_run files words last NoMemory h = tt
@@ -142,6 +146,7 @@ own_of_run files words last NoMemory h = tt
 -- what comes of the calls for a command comes of the run
 pub of_command : (files : List MemFile) (words : List (List ℕ)) (roots dir : List ℕ) (last : Option Call) (e : RunFault) → IsCommand words roots dir → IsOfCalls (calls_of files roots dir) last e → IsOfRun files words last e
 of_command files words roots dir last Unbuilt command h = tt
+of_command files words roots dir last (BadClass file offset why) command h = tt
 of_command files words roots dir last (ReadFault path) command h = record { roots = roots; dir = dir; command = command; of_run = h }
 of_command files words roots dir last WriteFault command h = tt
 of_command files words roots dir last NoMemory command h = tt
@@ -149,6 +154,8 @@ of_command files words roots dir last NoMemory command h = tt
 -- only a read fault has its status
 pub call_of_status : (files : List MemFile) (words : List (List ℕ)) (last : Option Call) (fault : RunFault) (status : ℕ) → IsOfRun files words last fault → IsStatusOf fault status → status ≡ 6 → IsCallOfRun files words last
 call_of_status files words last Unbuilt status of is six = absurd (omega arith)
+call_of_status files words last (BadClass file offset why) status of (inl is) six = absurd (omega arith)
+call_of_status files words last (BadClass file offset why) status of (inr is) six = absurd (omega arith)
 call_of_status files words last (ReadFault path) status of is six = of
 call_of_status files words last WriteFault status of is six = absurd (omega arith)
 call_of_status files words last NoMemory status of is six = absurd (omega arith)

@@ -16,10 +16,10 @@ use Rattle.wf_base.specs.declared.member.MemberName.{MemberName}
 use Rattle.wf_base.specs.ClassFile.{is_interface, method_at}
 use Rattle.wf_base.specs.Members.{same_member}
 use Rattle.wf_base.specs.NameForm.{member_of}
-use Rattle.wf_classfile.specs.declared.code.Operation.{Operation}
-use Rattle.wf_classfile.specs.declared.code.Operation.TheVariants.{IntConstant, InvokeStatic, IntReturn, Return}
-use Rattle.wf_classfile.specs.declared.code.Placed.{Placed}
-use Rattle.wf_classfile.specs.Code.{operations}
+use Rattle.world.specs.declared.code.Operation.{Operation}
+use Rattle.world.specs.declared.code.Operation.TheVariants.{IntConstant, InvokeStatic, IntReturn, Return}
+use Rattle.world.specs.declared.code.Placed.{Placed}
+use Rattle.world.specs.Code.{operations}
 use Rattle.wf_sys.specs.declared.flow.Flow.{Flow}
 use Rattle.wf_sys.specs.declared.flow.Flow.TheVariants.{Empty, Set}
 use Rattle.wf_sys.specs.declared.inequality.Guard.{Guard}

@@ -3,11 +3,12 @@ use Rattle.std.proofs.Common.{◌≡◌, ℕ, zero, suc, ◌+◌, ◌-◌, ◌*�
 use Rattle.std.specs.Prelude.{option_map, option_and_then}
 use Rattle.std.proofs.lemmas.Bool.{eqb-true, leb-true, le-leb, ne_eqb}
 use Rattle.std.proofs.lemmas.List.{drop-drop}
-use Rattle.wf_classfile.specs.declared.code.Operation.{Operation}
-use Rattle.wf_classfile.specs.declared.code.Operation.TheVariants.{IntConstant, InvokeStatic, IntReturn, Return}
-use Rattle.wf_classfile.specs.declared.code.Placed.{Placed}
-use Rattle.wf_classfile.specs.Code.{narrow, invoke_static, operation_in, size_of, placed_before, operations_from, operations}
+use Rattle.world.specs.declared.code.Operation.{Operation}
+use Rattle.world.specs.declared.code.Operation.TheVariants.{IntConstant, InvokeStatic, IntReturn, Return}
+use Rattle.world.specs.declared.code.Placed.{Placed}
+use Rattle.world.specs.Code.{narrow, invoke_static, operation_in, size_of, placed_before, operations_from, operations}
 use Rattle.wf_sys.specs.Program.{HasOpcode, operand_at, IsIntConstant, int_return_opcode, return_opcode, invoke_static_opcode}
+use Rattle.world.proofs.CodeLaws.{first_then}
 use Rattle.world.proofs.ListLaws.{and_both}
 
 -- ---- what stands at a place
@@ -124,27 +125,9 @@ what_begins code pc o h = stands_first (drop pc code) o (go o h)
 
 -- ---- one instruction after another
 
--- bytes that still belong to an instruction are passed over
-skipped : (n pc : ℕ) (bytes : List ℕ) → operations_from n pc bytes ≡ operations_from 0 (pc + n) (drop n bytes)
-unfolding operations_from
-skipped zero pc bytes = ap (λ k. operations_from 0 k bytes) (omega arith)
-skipped (suc n) pc [] = refl
-skipped (suc n) pc (b ∷ bytes) = skipped n (pc + 1) bytes ∙ ap (λ k. operations_from 0 k (drop n bytes)) (omega arith)
-
 -- what is found of bytes that begin with an instruction, or with none
 with_first : ℕ → List ℕ → Option Operation → Option (List Placed)
 with_first pc bytes first = option_and_then (λ p. option_map (placed_before pc p) (operations_from (size_of p - 1) (pc + 1) bytes)) first
-
-first_then : (pc : ℕ) (bytes : List ℕ) (o : Operation) → operation_in bytes ≡ Some o → operations_from 0 pc bytes ≡ option_map (placed_before pc o) (operations_from 0 (pc + size_of o) (drop (size_of o) bytes))
-unfolding operations_from with_first
-first_then pc [] o e = absurd cc
-first_then pc (b ∷ bytes) o e = ap (with_first pc bytes) e ∙ ap (option_map (placed_before pc o)) (behind o)
-  where
-    behind : (o : Operation) → operations_from (size_of o - 1) (pc + 1) bytes ≡ operations_from 0 (pc + size_of o) (drop (size_of o) (b ∷ bytes))
-    behind (IntConstant c) = refl
-    behind (InvokeStatic place) = skipped 2 (pc + 1) bytes ∙ ap (λ k. operations_from 0 k (drop 2 bytes)) (omega arith)
-    behind IntReturn = refl
-    behind Return = refl
 
 -- where one is found, the bytes begin with one
 begins_with_some : (pc : ℕ) (bytes : List ℕ) (o : Placed) (os : List Placed) → operations_from 0 pc bytes ≡ Some (o ∷ os) → (p : Operation) × (operation_in bytes ≡ Some p)

@@ -11,11 +11,11 @@ use Rattle.wf_base.specs.declared.class_info.MethodInfo.{MethodInfo}
 use Rattle.wf_base.specs.declared.class_info.PoolEntry.{PoolEntry}
 use Rattle.wf_base.specs.declared.member.MemberName.{MemberName}
 use Rattle.wf_base.specs.ClassFile.{is_interface, method_at}
-use Rattle.wf_classfile.specs.declared.code.Operation.{Operation}
-use Rattle.wf_classfile.specs.declared.code.Operation.TheVariants.{IntConstant, InvokeStatic, IntReturn, Return}
-use Rattle.wf_classfile.specs.declared.code.Placed.{Placed}
-use Rattle.wf_classfile.specs.Code.{size_of, operations_from, operations}
-use Rattle.wf_classfile.specs.FirstForm.{are_of_form, is_step_of_form, is_call_of_form, depth_after, pushed_by}
+use Rattle.world.specs.declared.code.Operation.{Operation}
+use Rattle.world.specs.declared.code.Operation.TheVariants.{IntConstant, InvokeStatic, IntReturn, Return}
+use Rattle.world.specs.declared.code.Placed.{Placed}
+use Rattle.world.specs.Code.{size_of, operations_from, operations}
+use Rattle.world.specs.FirstForm.{are_of_form, is_step_of_form, is_call_of_form, depth_after, pushed_by}
 use Rattle.wf_sys.specs.declared.inequality.Inequality.{Inequality}
 use Rattle.wf_sys.specs.Names.{method_name}
 use Rattle.wf_sys.specs.Nodes.{Node, Initialized, Entered, Returned, Result}

@@ -12,11 +12,11 @@ use Rattle.wf_base.specs.declared.class_info.PoolEntry.{PoolEntry}
 use Rattle.wf_base.specs.declared.member.MemberName.{MemberName}
 use Rattle.wf_base.specs.ClassFile.{is_interface, is_static}
 use Rattle.wf_base.specs.Names.{object_name}
-use Rattle.wf_classfile.specs.declared.code.Operation.{Operation}
-use Rattle.wf_classfile.specs.declared.code.Operation.TheVariants.{IntConstant, InvokeStatic}
-use Rattle.wf_classfile.specs.declared.code.Placed.{Placed}
-use Rattle.wf_classfile.specs.Code.{operations}
-use Rattle.wf_classfile.specs.FirstForm.{is_method_of_form, is_class_of_form, is_super_of_form, is_ordinary}
+use Rattle.world.specs.declared.code.Operation.{Operation}
+use Rattle.world.specs.declared.code.Operation.TheVariants.{IntConstant, InvokeStatic}
+use Rattle.world.specs.declared.code.Placed.{Placed}
+use Rattle.world.specs.Code.{operations}
+use Rattle.world.specs.FirstForm.{is_method_of_form, is_class_of_form, is_super_of_form, is_ordinary}
 use Rattle.wf_sys.specs.declared.inequality.Guard.TheVariants.{NonEmpty}
 use Rattle.wf_sys.specs.declared.inequality.ValueOp.TheVariants.{Token, IntIs, Copy}
 use Rattle.wf_sys.specs.declared.inequality.Inequality.{Inequality}

@@ -15,11 +15,11 @@ use Rattle.wf_base.specs.declared.member.MemberRef.{MemberRef}
 use Rattle.wf_base.specs.ClassFile.{is_static, method_at}
 use Rattle.wf_base.specs.Members.{named_by, same_member}
 use Rattle.wf_base.specs.NameForm.{member_of}
-use Rattle.wf_classfile.proofs.Lists.{any_map}
-use Rattle.wf_classfile.specs.declared.code.Operation.{Operation}
-use Rattle.wf_classfile.specs.declared.code.Operation.TheVariants.{IntConstant, InvokeStatic, IntReturn, Return}
-use Rattle.wf_classfile.specs.declared.code.Placed.{Placed}
-use Rattle.wf_classfile.specs.Code.{operations}
+use Rattle.world.proofs.ListLaws.{any_map}
+use Rattle.world.specs.declared.code.Operation.{Operation}
+use Rattle.world.specs.declared.code.Operation.TheVariants.{IntConstant, InvokeStatic, IntReturn, Return}
+use Rattle.world.specs.declared.code.Placed.{Placed}
+use Rattle.world.specs.Code.{operations}
 use Rattle.wf_sys.specs.Names.{method_name}
 use Rattle.world.proofs.ListLaws.{and_both}
 use Rattle.world.specs.Calls.{statics_in, has_member, is_known, calls_known, found_call_known, code_calls_known, class_calls_known}

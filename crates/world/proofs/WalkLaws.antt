@@ -1,20 +1,21 @@
 -- The walk of one directory.
-use Rattle.std.proofs.Common.{◌≡◌, ℕ, suc, ◌+◌, ◌-◌, ◌<◌, ◌≤◌, Bool, false, List, length, None, refl, ap, ◌∙◌, arith}
+use Rattle.std.proofs.Common.{◌≡◌, ℕ, suc, ◌+◌, ◌-◌, ◌<◌, ◌≤◌, Bool, false, List, length, Err, refl, ap, ◌∙◌, arith}
 use Rattle.std.proofs.lemmas.Bool.{lt-ltb, le-ltb}
 use Rattle.wf_io.specs.declared.tree.Entry.{Entry}
 use Rattle.wf_io.specs.declared.tree.MemFile.{MemFile}
 use Rattle.wf_io.specs.Tree.{listing}
+use Rattle.world.specs.declared.fault.RunFault.TheVariants.{Unbuilt}
 use Rattle.world.specs.declared.limits.TheConstants.{MAX_ENTRIES}
 use Rattle.world.specs.declared.walk.Walked.{Walked}
 use Rattle.world.specs.Walk.{each, listed, visit, walk}
 
--- nothing comes of a directory that lies too deep
-pub too_deep : (files : List MemFile) (depth : ℕ) (top : Bool) (dir : List ℕ) (w : Walked) → depth ≡ 0 → walk files depth top dir w ≡ None
+-- a directory that lies too deep is refused
+pub too_deep : (files : List MemFile) (depth : ℕ) (top : Bool) (dir : List ℕ) (w : Walked) → depth ≡ 0 → walk files depth top dir w ≡ Err Unbuilt
 unfolding walk
 too_deep files depth top dir w e = rw e refl
 
--- nothing comes of one with too many entries
-pub too_many : (files : List MemFile) (depth : ℕ) (top : Bool) (dir : List ℕ) (w : Walked) → 0 < depth → w.entries ≤ MAX_ENTRIES → MAX_ENTRIES - w.entries < length (listing files dir) → walk files depth top dir w ≡ None
+-- so is one with too many entries
+pub too_many : (files : List MemFile) (depth : ℕ) (top : Bool) (dir : List ℕ) (w : Walked) → 0 < depth → w.entries ≤ MAX_ENTRIES → MAX_ENTRIES - w.entries < length (listing files dir) → walk files depth top dir w ≡ Err Unbuilt
 unfolding walk
 too_many files depth top dir w deep small many =
     let d : depth ≡ suc (depth - 1) = omega arith in

@@ -2,7 +2,7 @@
 use Rattle.std.specs.Prelude.{◌≡◌, true, List, Contains}
 use Rattle.wf_base.specs.declared.class_info.ClassInfo.{ClassInfo}
 use Rattle.wf_base.specs.declared.member.MemberName.{MemberName}
-use Rattle.wf_classfile.specs.FirstForm.{is_first_form}
+use Rattle.world.specs.FirstForm.{is_first_form}
 use Rattle.wf_sys.specs.Program.{DeclaresStatic}
 use Rattle.world.specs.Calls.{calls_are_known}
 use Rattle.world.specs.Load.{has_object}

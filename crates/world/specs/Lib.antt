@@ -1,5 +1,7 @@
 pub mod Command
 pub mod Faults
+pub mod Code
+pub mod FirstForm
 pub mod Form
 pub mod Run
 pub mod Walk

@@ -1,5 +1,5 @@
 -- What is read of a tree: the classes of the noted files, and the root.
-use Rattle.std.specs.Prelude.{ℕ, ◌+◌, Bool, not, ◌&&◌, List, [], ◌∷◌, ◌++◌, Option, Some, None, nat_lt, nat_eq, length, take, ◌-◌, codes, option_and_then, option_map, count_by, if◌then◌else◌}
+use Rattle.std.specs.Prelude.{ℕ, ◌+◌, Bool, not, ◌&&◌, List, [], ◌∷◌, ◌++◌, Option, Some, None, Result, Ok, Err, nat_lt, nat_eq, length, take, ◌-◌, codes, count_by, if◌then◌else◌}
 use Rattle.std.specs.List.{ends_with, list_any}
 use Rattle.std.specs.Str.{bytes_eq}
 use Rattle.wf_base.specs.declared.class_info.ClassInfo.{ClassInfo}
@@ -8,12 +8,16 @@ use Rattle.wf_base.specs.declared.member.MemberName.{MemberName}
 use Rattle.wf_base.specs.ClassFile.{has_flag, is_static}
 use Rattle.wf_base.specs.NameForm.{member_text}
 use Rattle.wf_base.specs.Names.{object_name}
-use Rattle.wf_classfile.specs.FirstForm.{first_form_of}
+use Rattle.wf_base.specs.Reading.{Fault, class_of}
 use Rattle.wf_io.specs.declared.tree.MemFile.{MemFile}
 use Rattle.wf_io.specs.Tree.{content}
 use Rattle.wf_sys.specs.Names.{method_name}
+use Rattle.world.specs.declared.fault.RunFault.{RunFault}
+use Rattle.world.specs.declared.fault.RunFault.TheVariants.{Unbuilt, BadClass}
 use Rattle.world.specs.declared.limits.TheConstants.{MAX_FILE_BYTES, MAX_BYTES, MAX_TYPES, MAX_METHODS, MAX_NODES}
 use Rattle.world.specs.declared.load.ReadSoFar.{ReadSoFar}
+use Rattle.world.specs.Faults.{◌>>=◌}
+use Rattle.world.specs.FirstForm.{is_first_form}
 use Rattle.world.specs.Nodes.{nodes_of}
 use Rattle.world.specs.Walk.{each, path_in}
 
@@ -21,23 +25,34 @@ use Rattle.world.specs.Walk.{each, path_in}
 abbrev pub class_path : List ℕ → List ℕ → List ℕ
 class_path dir name = path_in dir name ++ codes ".class"
 
--- the next class, where its file stands at the path of its name
-abbrev pub add_class : List ℕ → List ℕ → List ℕ → ReadSoFar → ClassInfo → Option ReadSoFar
+-- the next class: it is of the first form, and then its file stands at the path of its name
+abbrev pub add_class : List ℕ → List ℕ → List ℕ → ReadSoFar → ClassInfo → Result ReadSoFar RunFault
 add_class dir path bytes so_far class =
-    if bytes_eq path (class_path dir class.name) then Some (record { bytes = so_far.bytes + length bytes; classes = so_far.classes ++ class ∷ [] }) else None
+    if is_first_form class then (if bytes_eq path (class_path dir class.name) then Ok (record { bytes = so_far.bytes + length bytes; classes = so_far.classes ++ class ∷ [] }) else Err Unbuilt)
+    else Err Unbuilt
 
--- A file: first its length, then the sum of the lengths, then its form, then its class's name.
-abbrev pub take_file : List ℕ → List ℕ → List ℕ → ReadSoFar → Option ReadSoFar
+-- what reading the bytes of a file gives; a fault is told with the file's path
+abbrev pub class_in : List ℕ → Result ClassInfo Fault → Result ClassInfo RunFault
+class_in path (Ok class) = Ok class
+class_in path (Err fault) = Err (BadClass path fault.offset fault.why)
+
+-- A file: first its length, then the sum of the lengths, then the grammar, and then its class's form and name.
+abbrev pub take_file : List ℕ → List ℕ → List ℕ → ReadSoFar → Result ReadSoFar RunFault
 take_file dir path bytes so_far =
-    if nat_lt MAX_FILE_BYTES (length bytes) then None
-    else (if nat_lt MAX_BYTES (so_far.bytes + length bytes) then None else option_and_then (add_class dir path bytes so_far) (first_form_of bytes))
+    if nat_lt MAX_FILE_BYTES (length bytes) then Err Unbuilt
+    else (if nat_lt MAX_BYTES (so_far.bytes + length bytes) then Err Unbuilt else class_in path (class_of bytes) >>= add_class dir path bytes so_far)
 
-abbrev pub read_file : List MemFile → List ℕ → List ℕ → ReadSoFar → Option ReadSoFar
-read_file files dir path so_far = option_and_then (λ bytes. take_file dir path bytes so_far) (content files path)
+-- The same of what the tree has at its path. Of a file that isn't there nothing comes.
+abbrev pub take_content : List ℕ → List ℕ → ReadSoFar → Option (List ℕ) → Result ReadSoFar RunFault
+take_content dir path so_far None = Err Unbuilt
+take_content dir path so_far (Some bytes) = take_file dir path bytes so_far
+
+abbrev pub read_file : List MemFile → List ℕ → List ℕ → ReadSoFar → Result ReadSoFar RunFault
+read_file files dir path so_far = take_content dir path so_far (content files path)
 
 -- the classes of these files, in their order
-abbrev pub classes_of : List MemFile → List ℕ → List (List ℕ) → Option (List ClassInfo)
-classes_of files dir paths = option_map (λ (r : ReadSoFar). r.classes) (each (read_file files dir) paths (record { bytes = 0; classes = [] }))
+abbrev pub classes_of : List MemFile → List ℕ → List (List ℕ) → Result (List ClassInfo) RunFault
+classes_of files dir paths = each (read_file files dir) paths (record { bytes = 0; classes = [] }) >>= λ (r : ReadSoFar). Ok r.classes
 
 -- whether java/lang/Object is among the classes
 abbrev pub has_object : List ClassInfo → Bool

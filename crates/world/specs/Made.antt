@@ -1,5 +1,5 @@
 -- The calls of the tree that a run makes where none of them fails: in their order, up to the first refusal.
-use Rattle.std.specs.Prelude.{◌≡◌, ℕ, zero, suc, ◌+◌, Bool, true, false, ◌&&◌, List, [], ◌∷◌, ◌++◌, Option, Some, None, Contains, nat_lt, length, codes, if◌then◌else◌}
+use Rattle.std.specs.Prelude.{◌≡◌, ℕ, zero, suc, ◌+◌, Bool, true, false, ◌&&◌, List, [], ◌∷◌, ◌++◌, Option, Some, Result, Ok, Err, Contains, nat_lt, length, codes, if◌then◌else◌}
 use Rattle.std.specs.Str.{bytes_eq}
 use Rattle.wf_base.specs.declared.class_info.ClassInfo.{ClassInfo}
 use Rattle.wf_io.specs.declared.tree.Call.{Call}
@@ -9,7 +9,7 @@ use Rattle.wf_io.specs.declared.tree.MemFile.{MemFile}
 use Rattle.wf_io.specs.Tree.{listing}
 use Rattle.world.specs.declared.limits.TheConstants.{MAX_DEPTH, MAX_ENTRIES}
 use Rattle.world.specs.declared.fault.RunFault.{RunFault}
-use Rattle.world.specs.declared.fault.RunFault.TheVariants.{Unbuilt, ReadFault, WriteFault, NoMemory}
+use Rattle.world.specs.declared.fault.RunFault.TheVariants.{ReadFault}
 use Rattle.world.specs.declared.load.ReadSoFar.{ReadSoFar}
 use Rattle.world.specs.declared.walk.Walked.{Walked}
 use Rattle.world.specs.Command.{IsCommand}
@@ -17,12 +17,12 @@ use Rattle.world.specs.Walk.{path_in, visit, listed, walk, at_start, noted_from}
 use Rattle.world.specs.Load.{read_file, classes_of, has_object}
 
 -- the calls behind a step, where it isn't refused
-abbrev pub calls_behind : {S : Type 0} → (S → List Call) → Option S → List Call
-calls_behind calls None = []
-calls_behind calls (Some s) = calls s
+abbrev pub calls_behind : {S : Type 0} → (S → List Call) → Result S RunFault → List Call
+calls_behind calls (Err fault) = []
+calls_behind calls (Ok s) = calls s
 
 -- the calls of each element in turn, up to the first that is refused
-abbrev pub each_calls : {X S : Type 0} → (X → S → List Call) → (X → S → Option S) → List X → S → List Call
+abbrev pub each_calls : {X S : Type 0} → (X → S → List Call) → (X → S → Result S RunFault) → List X → S → List Call
 each_calls calls f [] s = []
 each_calls calls f (x ∷ xs) s = calls x s ++ calls_behind (each_calls calls f xs) (f x s)
 
@@ -66,9 +66,7 @@ pub record IsLastOf (calls : List Call) (last : Option Call) : Type 0 where
 -- a read fault comes of one of these calls
 abbrev pub IsOfCalls : List Call → Option Call → RunFault → Type 0
 IsOfCalls calls last (ReadFault path) = IsLastOf calls last
-IsOfCalls calls last Unbuilt = Unit {0}
-IsOfCalls calls last WriteFault = Unit {0}
-IsOfCalls calls last NoMemory = Unit {0}
+IsOfCalls calls last fault = Unit {0}
 
 -- the tree's last failed call is one that the run makes for these words and files
 pub record IsCallOfRun (files : List MemFile) (words : List (List ℕ)) (last : Option Call) : Type 0 where
@@ -80,6 +78,4 @@ pub record IsCallOfRun (files : List MemFile) (words : List (List ℕ)) (last : 
 -- a read fault comes of such a call
 abbrev pub IsOfRun : List MemFile → List (List ℕ) → Option Call → RunFault → Type 0
 IsOfRun files words last (ReadFault path) = IsCallOfRun files words last
-IsOfRun files words last Unbuilt = Unit {0}
-IsOfRun files words last WriteFault = Unit {0}
-IsOfRun files words last NoMemory = Unit {0}
+IsOfRun files words last fault = Unit {0}

@@ -8,9 +8,9 @@ use Rattle.wf_base.specs.declared.class_info.MethodInfo.{MethodInfo}
 use Rattle.wf_base.specs.declared.member.MemberName.{MemberName}
 use Rattle.wf_base.specs.ClassFile.{is_static}
 use Rattle.wf_base.specs.Members.{named_by, same_member}
-use Rattle.wf_classfile.specs.declared.code.Operation.TheVariants.{IntConstant, InvokeStatic, IntReturn, Return}
-use Rattle.wf_classfile.specs.declared.code.Placed.{Placed}
-use Rattle.wf_classfile.specs.Code.{operations}
+use Rattle.world.specs.declared.code.Operation.TheVariants.{IntConstant, InvokeStatic, IntReturn, Return}
+use Rattle.world.specs.declared.code.Placed.{Placed}
+use Rattle.world.specs.Code.{operations}
 use Rattle.wf_sys.specs.Names.{method_name}
 use Rattle.wf_sys.specs.Nodes.{Node, Inst, Start, Nothing, Initialized, Entered, Parameter, Returned, Result, Touched}
 use Rattle.world.specs.declared.nodes.NodeKey.{NodeKey}

@@ -6,12 +6,13 @@ ghost use Rattle.wf_base.specs.Members.{named_by};
 ghost use Rattle.world.specs.Calls.{statics_in, statics_of, has_member, calls_known, code_calls_known, class_calls_known, calls_are_known};
 ghost use Rattle.world.specs.Statics.{HaveSame};
 
+use crate::code::{Operation, Placed, operations};
 use crate::program::method_ref;
 use indexmap::IndexSet;
 use std::alloc::{AllocError, Global};
 use std::marker::Model;
-use wf_base::{ClassInfo, CodeInfo, MemberRef, MethodInfo, PoolEntry};
-use wf_classfile::{Operation, Placed, is_static, method_at, operations};
+use wf_base::{ClassInfo, CodeInfo, MemberRef, MethodInfo, PoolEntry, is_static};
+use wf_constpool::method_at;
 
 /// The static methods of a program, each once.
 #[derive(Drop)]

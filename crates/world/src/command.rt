@@ -1,5 +1,5 @@
-ghost use Rattle.std.specs.Prelude.{◌≡◌, ◌↔◌, List, ℕ, map, IsTrue, IfSome, IfNone, IfOk, IfErr, IsErrOf};
-ghost use Rattle.world.specs.Command.{IsPath, IsCommand, words_of};
+ghost use Rattle.std.specs.Prelude.{◌≡◌, ◌↔◌, List, ℕ, map, IsTrue, IfSome, IfNone, IfOk, IfErr};
+ghost use Rattle.world.specs.Command.{IsPath, IsCommand, words_of, IsOfWords};
 ghost use Rattle.world.specs.Faults.{IsOwn};
 
 use crate::fault::RunFault;
@@ -47,8 +47,7 @@ fn paths_of(words: &[Vec<u8>]) -> Option<(&[u8], &[u8])>
 /// The command that the words `--roots FILE DIR` give; not built where they are others.
 pub fn command_of(alloc: Global, words: &[Vec<u8>]) -> Result<Command, RunFault>
     ensures ok { IfOk result (λ command. IsCommand (words_of words.now) command.roots command.dir) }
-    ensures unbuilt { IsErrOf result RunFault.Unbuilt →
-        (roots dir : List ℕ) → IsCommand (words_of words.now) roots dir → ⊥ }
+    ensures refused { IfErr result (IsOfWords (words_of words.now)) }
     ensures fault { IfErr result IsOwn }
 {
     match paths_of(words) {

@@ -3,7 +3,7 @@ ghost use Rattle.world.specs.declared.fault.RunFault.TheVariants.{NoMemory};
 
 use std::alloc::{AllocError, AllocFailed};
 use thiserror::Error;
-use wf_base::Text;
+use wf_base::{Text, Why};
 
 /// Why a run prints no world.
 #[derive(Debug, Drop, Error)]
@@ -11,6 +11,10 @@ pub enum RunFault {
     /// The words or the input are of a form that isn't built yet.
     #[error("not built yet")]
     Unbuilt,
+    /// The bytes of this file spell no class: what is wrong with the first item that is, and where in the
+    /// file that item begins.
+    #[error("bad class file")]
+    BadClass { file: Text, offset: u32, why: Why },
     /// The tree counted a fault at this path.
     #[error("read fault")]
     ReadFault { path: Text },

@@ -1,23 +1,24 @@
 ghost use Rattle.std.specs.Prelude.{◌≡◌, ◌+◌, ◌≤◌, true, List, [], ◌∷◌, Some, length, IfOk, IfErr};
 ghost use Rattle.wf_io.specs.declared.tree.MemFile.{MemFile};
 ghost use Rattle.wf_io.specs.Tree.{content};
-ghost use Rattle.wf_classfile.specs.FirstForm.{is_first_form};
-ghost use Rattle.world.specs.Faults.{IsOfTree, IsOwn, Gives, Reads, ReadsFile};
+ghost use Rattle.world.specs.Faults.{IsOfTree, IsOwn, IsBadClass, Gives, Reads, ReadsFile};
 ghost use Rattle.world.specs.Form.{AllOfForm, IsOfForm};
 ghost use Rattle.world.specs.Load.{class_path, add_class, take_file, read_file, classes_of, has_object, only_line, root_in};
 ghost use Rattle.wf_io.specs.declared.tree.Call.TheVariants as call;
 ghost use Rattle.world.specs.Made.{IsOfCalls, file_calls, classes_calls, roots_calls, calls_of};
-ghost use Rattle.world.specs.Outcome.{NotBuilt, Analysed, with_root, with_roots, answer_of, Loads};
+ghost use Rattle.world.specs.Outcome.{with_root, with_roots, answer_of, Loads};
 
 use crate::calls::calls_are_known;
 use crate::command::Command;
 use crate::fault::RunFault;
+use crate::form::is_first_form;
 use crate::limits::{MAX_BYTES, MAX_FILE_BYTES};
 use crate::program::{Program, has_object, is_within_limits, only_line, root_in};
 use crate::walk::{path_in, read_fault, walk_from};
 use std::alloc::{AllocError, Global};
-use wf_base::{ClassInfo, Items, Text};
-use wf_classfile::{ClassFault, read_class};
+use wf_base::{ClassInfo, Items, Text, Why};
+use wf_classfile::read_class;
+use wf_constpool::ClassFault;
 use wf_io::{Tree, TreeFault};
 
 /// The class files read so far.
@@ -54,7 +55,8 @@ fn class_path(alloc: Global, dir: &Text, name: &Text) -> Result<Text, AllocError
     Ok(path)
 }
 
-/// Adds the class of a file of so many bytes, where the file stands at the path of the class.
+/// Adds the class of a file of so many bytes, where it is of the first form and the file stands at the path
+/// of its name.
 #[tactic(auto, using(crate::proofs::FormKept::one_more_of_form))]
 fn add_class(
     alloc: Global,
@@ -65,12 +67,14 @@ fn add_class(
     class: ClassInfo,
 ) -> Result<(), RunFault>
     requires small { so_far.old.bytes + length bytes.now ≤ MAX_BYTES }
-    requires form { is_first_form class ≡ true }
     ensures added { Gives so_far.new result (add_class dir.now path.now bytes.now so_far.old class) }
     ensures small { so_far.new.bytes ≤ MAX_BYTES }
     ensures form { AllOfForm so_far.old.classes → AllOfForm so_far.new.classes }
     ensures fault { IfErr result IsOwn }
 {
+    if !is_first_form(alloc, &class)? {
+        return Err(RunFault::Unbuilt);
+    }
     let right = class_path(alloc, dir, &class.name)?;
     if path.as_slice() != right.as_slice() {
         return Err(RunFault::Unbuilt);
@@ -84,7 +88,17 @@ fn add_class(
     }
 }
 
-/// Takes the bytes of a noted file: the sum of the lengths, the form and the name of its class.
+/// The fault of a file whose bytes spell no class, which keeps its path.
+fn bad_class(alloc: Global, path: &Text, offset: u32, why: Why) -> RunFault
+    ensures { IsBadClass path.now offset why result }
+{
+    match Text::from_slice(alloc, path.as_slice()) {
+        Ok(file) => RunFault::BadClass { file, offset, why },
+        Err(_) => RunFault::NoMemory,
+    }
+}
+
+/// Takes the bytes of a noted file: the sum of the lengths, the grammar, and the form and name of the class.
 fn take_file(
     alloc: Global,
     dir: &Text,
@@ -104,7 +118,7 @@ fn take_file(
     }
     match read_class(alloc, bytes.as_slice()) {
         Ok(class) => add_class(alloc, dir, path, bytes, so_far, class),
-        Err(ClassFault::Unbuilt) => Err(RunFault::Unbuilt),
+        Err(ClassFault::Bad { offset, why }) => Err(bad_class(alloc, path, offset, why)),
         Err(ClassFault::NoMemory) => Err(RunFault::NoMemory),
     }
 }
@@ -131,8 +145,8 @@ fn read_file<T: Tree>(
     take_file(alloc, dir, path, &bytes, so_far)
 }
 
-/// Reads the noted files in their order, and gives their classes. Not built where a file isn't of the form,
-/// stands at another path than its class's, or passes a limit.
+/// Reads the noted files in their order, and gives their classes. The first file that passes a limit, spells
+/// no class, or whose class isn't of the form or belongs at another path is refused.
 #[tactic(auto, using(crate::proofs::FormKept::none_of_form))]
 pub fn read_classes<T: Tree>(
     alloc: Global,
@@ -202,8 +216,9 @@ fn read_roots<T: Tree>(
 }
 
 /// Reads the program that the command names: the walk of its directory, the noted files, and the roots
-/// file, in this order. Not built where any of them is of another form or passes a limit, where no class
-/// is `java/lang/Object`, or where a call names no static method that the named class itself declares.
+/// file, in this order. A file that spells no class is a bad one. Not built where a class or the roots file
+/// is of another form, where a limit is passed, where no class is `java/lang/Object`, or where a call names
+/// no static method that the named class itself declares.
 pub fn load<T: Tree>(alloc: Global, tree: &mut T, command: &Command) -> Result<Program, RunFault>
     ensures program { (files : List MemFile) → T.told tree.old ≡ Some files →
         Loads (answer_of files command.now.roots command.now.dir) result }

@@ -2,8 +2,10 @@
 #![tactic(auto)]
 
 mod calls;
+mod code;
 mod command;
 mod fault;
+mod form;
 mod laws;
 mod least;
 mod limits;

@@ -8,13 +8,13 @@ ghost use Rattle.wf_sys.specs.declared.flow.Flow.TheVariants.{Set};
 ghost use Rattle.world.specs.Nodes.{node_of, place_of, with_node, with_nodes, receiver_nodes, method_nodes, shared_nodes, result_nodes, code_nodes, own_method_nodes, own_nodes, nodes_of};
 ghost use Rattle.world.specs.Solution.{seeded};
 
+use crate::code::{Operation, Placed, operations};
 use crate::limits::MAX_NODES;
 use crate::program::method_ref;
 use indexmap::IndexSet;
 use std::alloc::{AllocError, Global};
 use std::marker::Model;
-use wf_base::{ClassInfo, CodeInfo, MemberName, MemberRef, MethodInfo};
-use wf_classfile::{Operation, Placed, is_static, operations};
+use wf_base::{ClassInfo, CodeInfo, MemberName, MemberRef, MethodInfo, is_static};
 use wf_sys::Flow;
 
 /// A node of the system, by borrowed names.

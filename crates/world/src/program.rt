@@ -9,8 +9,7 @@ ghost use Rattle.world.specs.Load.{has_object, only_line, root_line, root_among,
 use crate::limits::{MAX_METHODS, MAX_TYPES};
 use crate::nodes::has_few_nodes;
 use std::alloc::{AllocError, Global};
-use wf_base::{ClassInfo, Items, MemberName, MemberRef, MethodInfo, is_member_text};
-use wf_classfile::is_static;
+use wf_base::{ClassInfo, Items, MemberName, MemberRef, MethodInfo, is_member_text, is_static};
 
 /// The classes of a program, and the static method that is its root.
 #[derive(Debug, Drop)]

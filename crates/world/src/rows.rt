@@ -7,12 +7,13 @@ ghost use Rattle.wf_sys.specs.Program.{top_of};
 ghost use Rattle.world.specs.Nodes.{place_of};
 ghost use Rattle.world.specs.Rows.{token_row, constant_row, copy_row, call_rows, return_rows, rows_at, behind, found_rows, code_rows, method_rows, super_rows, rows_of};
 
+use crate::code::{Operation, Placed, operations};
 use crate::nodes::{NodeKey, Nodes};
 use crate::program::method_ref;
 use std::alloc::{AllocError, Global};
 use std::marker::Model;
-use wf_base::{ClassInfo, CodeInfo, MemberRef, PoolEntry};
-use wf_classfile::{Operation, Placed, is_interface, method_at, operations};
+use wf_base::{ClassInfo, CodeInfo, MemberRef, PoolEntry, is_interface};
+use wf_constpool::method_at;
 use wf_sys::{Guard, Inequality, ValueOp};
 
 /// What is known before a place of a code, by the numbers of the nodes.

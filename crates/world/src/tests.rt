@@ -1,5 +1,6 @@
 //! The rows of the top call over a tree and sinks in memory.
 
+mod bad;
 mod limits;
 mod path;
 
@@ -271,7 +272,7 @@ fn roots_of_the_form(rt: HostRuntime) -> Result<(), Fail> {
 #[test]
 fn other_input_is_not_built(rt: HostRuntime) -> Result<(), Fail> {
     let alloc = rt.alloc();
-    let cases: [[File; 3]; 13] = [
+    let cases: [[File; 3]; 11] = [
         // roots files
         row("d/A.class", Content::Class(b"A"), b"static A.nope ()V\n"),
         row("d/A.class", Content::Class(b"A"), b"static A.main ()V\n\n"),
@@ -291,18 +292,8 @@ fn other_input_is_not_built(rt: HostRuntime) -> Result<(), Fail> {
             b"static java/lang/Object.<init> ()V\n",
         ),
         row("d/A.class", Content::Class(b"A"), b""),
-        // a class at another path, a class of no allowed name, a file that is no class
+        // a class at another path
         row("d/B.class", Content::Class(b"A"), b"static A.main ()V\n"),
-        row(
-            "d/a/A.class",
-            Content::Class(b"a//A"),
-            b"static A.main ()V\n",
-        ),
-        row(
-            "d/A.class",
-            Content::Bytes(b"\xca\xfe\xba\xbe"),
-            b"static A.main ()V\n",
-        ),
     ];
     for (i, files) in cases.iter().enumerate() {
         let ran = run(

@@ -1,12 +1,15 @@
 //! Trees at a limit and past it. What is refused at a limit makes no further call, so a call that is told to
 //! fail shows whether it was made.
 
+ghost use Rattle.std.specs.Prelude.{None};
+
 use super::{FIRST_ROW, File, Ran, WORDS, bytes_of, push_text, run, sink};
+use crate::run::world_run;
 use std::alloc::{AllocError, Global};
 use std::test::Fail;
 use std::thread::Threads;
 use wf_base::{Items, Text};
-use wf_io::{MemFile, TreeMem};
+use wf_io::{Entry, MemFile, Tree, TreeFault, TreeMem};
 
 fn push_files(alloc: Global, out: &mut Vec<MemFile>, files: &[File]) -> Result<(), AllocError> {
     for (path, content) in files {
@@ -126,5 +129,116 @@ fn methods(rt: HostRuntime) -> Result<(), Fail> {
         let ran = run_files(&rt, files, &[])?;
         assert_eq!(rt; ran.status, status, "with {besides}");
     }
+    Ok(())
+}
+
+/// A file of so many bytes, all 0.
+fn zeros(alloc: Global, path: &str, size: usize) -> Result<MemFile, AllocError> {
+    let path = Text::from_slice(alloc, path.as_bytes())?;
+    let mut bytes = Vec::new(alloc);
+    bytes.resize(size, 0)?;
+    let bytes = Text::from_vec(bytes);
+    Ok(MemFile { path, bytes })
+}
+
+/// A file of 16777216 bytes is looked at, and one of a byte more isn't.
+#[test]
+fn bytes_of_a_file(rt: HostRuntime) -> Result<(), Fail> {
+    let alloc = rt.alloc();
+    for (size, status) in [(16777216, 3), (16777217, 10)] {
+        let mut files = Vec::new(alloc);
+        files.push(zeros(alloc, "d/A.class", size)?)?;
+        let ran = run_files(&rt, files, &[])?;
+        assert_eq!(rt; ran.status, status, "with {size}");
+    }
+    let mut files = Vec::new(alloc);
+    push_files(alloc, &mut files, &FIRST_ROW[..2])?;
+    files.push(zeros(alloc, "r", 16777217)?)?;
+    let ran = run_files(&rt, files, &[])?;
+    assert_eq!(rt; ran.status, 10);
+    assert_eq!(rt; ran.err.bytes(), b"not built yet\n".as_slice());
+    Ok(())
+}
+
+/// A tree of 34 class files of 16777216 bytes, `d/10.class` to `d/43.class`, which are made when they are
+/// read.
+#[derive(Drop)]
+struct LargeFiles {
+    /// The inside of the attribute that makes a file so long.
+    inside: Vec<u8>,
+    reads: u32,
+}
+
+/// The bytes of such a file: a class with this name and one attribute.
+fn large_file(alloc: Global, name: &[u8], inside: &[u8]) -> Result<Vec<u8>, AllocError> {
+    let mut out = Vec::new(alloc);
+    out.extend_from_slice(&[0xca, 0xfe, 0xba, 0xbe, 0, 0, 0, 52, 0, 5, 7, 0, 2])?;
+    push_text(&mut out, name)?;
+    out.extend_from_slice(&[7, 0, 4])?;
+    push_text(&mut out, b"java/lang/Object")?;
+    out.extend_from_slice(&[0, 0x21, 0, 1, 0, 3, 0, 0, 0, 0, 0, 0, 0, 1, 0, 2])?;
+    out.extend_from_slice(&16777156u32.to_be_bytes())?;
+    out.extend_from_slice(inside)?;
+    Ok(out)
+}
+
+fn large_files(alloc: Global) -> Result<Vec<Entry>, AllocError> {
+    let mut entries = Vec::new(alloc);
+    for i in 10..44 {
+        let name = format!(in alloc; "{i}.class")?;
+        let name = Text::from_slice(alloc, name.as_bytes())?;
+        let is_dir = false;
+        entries.push(Entry { name, is_dir })?;
+    }
+    Ok(entries)
+}
+
+impl Tree for LargeFiles {
+    ghost told = { λ _. None };
+
+    ghost last_failed = { λ _. None };
+
+    ghost count = { λ _. 0 };
+
+    fn list(&mut self, alloc: Global, _: &Text, most: u32) -> Result<Items<Entry>, TreeFault> {
+        let entries = large_files(alloc)?;
+        if entries.len() > most as usize {
+            return Err(TreeFault::More);
+        }
+        Ok(Items::from_vec(entries))
+    }
+
+    fn read(&mut self, alloc: Global, path: &Text, most: u32) -> Result<Text, TreeFault> {
+        self.reads = self.reads.saturating_add(1);
+        let name = path.as_slice().get(2..4).unwrap_or_default();
+        let bytes = Text::from_vec(large_file(alloc, name, &self.inside)?);
+        if bytes.as_slice().len() > most as usize {
+            return Err(TreeFault::More);
+        }
+        Ok(bytes)
+    }
+
+    fn faults(&self) -> u64 {
+        0
+    }
+}
+
+/// The 33rd file passes the sum of 536870912 bytes, and nothing behind it is read.
+#[test]
+fn bytes_of_all_files(rt: HostRuntime) -> Result<(), Fail> {
+    let alloc = rt.alloc();
+    let mut inside = Vec::new(alloc);
+    inside.resize(16777156, 0)?;
+    let mut tree = LargeFiles { inside, reads: 0 };
+    let mut words = Vec::new(alloc);
+    for word in WORDS {
+        words.push(word.as_bytes().to_vec(alloc)?)?;
+    }
+    let mut out = sink(alloc, 1000, &[])?;
+    let mut err = sink(alloc, 1000, &[])?;
+    let status = world_run(&rt, alloc, &words, &mut tree, &mut out, &mut err);
+    assert_eq!(rt; status, 10);
+    assert_eq!(rt; err.bytes(), b"not built yet\n".as_slice());
+    assert_eq!(rt; tree.reads, 33);
     Ok(())
 }

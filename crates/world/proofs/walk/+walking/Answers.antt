@@ -16,12 +16,12 @@ pub visit-returns-then-is_noted-clause-made : goal.visit-returns-then-is_noted-c
 visit-returns-then-is_noted-clause-made g t c = λ files told. own_of_calls _ _ _ c.note.ensures.fault
 
 pub walk-returns-then-depth-eq0-clause-walked : goal.walk-returns-then-depth-eq0-clause-walked
-walk-returns-then-depth-eq0-clause-walked g t c = λ files told. too_deep files c.args.depth c.args.top c.args.dir.now c.args.walked.now c.if-depth-eq0.true
+walk-returns-then-depth-eq0-clause-walked g t c = λ files told r. too_deep files c.args.depth c.args.top c.args.dir.now c.args.walked.now c.if-depth-eq0.true
 
 pub walk-returns-in_err-entries-clause-walked : goal.walk-returns-in_err-entries-clause-walked
 walk-returns-in_err-entries-clause-walked g t c = λ files told.
     let p = err_from_is_err_and c.from_residual.result c.from_residual.ensures.1 in
-    rw (p.1, p.2) (listed_err _ (listing files c.args.dir.now) c.in_err-entries.field-0.0 c.args.walked.now (walk files c.args.depth c.args.top c.args.dir.now c.args.walked.now) (c.in_err-entries.ensures.listed files told)
+    rw (p.1, p.2) (listed_err _ (listing files c.args.dir.now) c.in_err-entries.field-0.0 (walk files c.args.depth c.args.top c.args.dir.now c.args.walked.now) (c.in_err-entries.ensures.listed files told)
     (λ many. too_many files c.args.depth c.args.top c.args.dir.now c.args.walked.now (omega arith) c.requires many))
 
 pub walk-returns-in_err-entries-clause-made : goal.walk-returns-in_err-entries-clause-made

@@ -1,4 +1,4 @@
-use Rattle.wf_classfile.proofs.Lists.{any_map}
+use Rattle.world.proofs.ListLaws.{any_map}
 use Rattle.world.proofs.calls.Statics.has.Goals as goal
 
 pub returns : goal.returns
