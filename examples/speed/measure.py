@@ -1,15 +1,19 @@
 #!/usr/bin/env python3
-"""Measures a run over many small classes beside `cat` of the same files.
+"""Measures a run over many classes beside `cat` of the same files.
 
-Each class has thirty static methods, of which each calls the next. The root is in one class, so little is solved: the
-time is that of the walk, of reading, and of making the system. Build the program first (`./world` at the root does), and run this with nothing else on the machine:
+Each class has some static methods, of which each calls the next, and as many further constants as are asked for, half of
+them texts. The root is in one class, so little is solved: the time is that of the walk, of reading, and of making the
+system. Build the program first (`./world` at the root does), and run this with nothing else on the machine:
 
-    examples/speed/measure.py [CLASSES]
+    examples/speed/measure.py
+    examples/speed/measure.py --classes 5000 --methods 2 --constants 480
+    examples/speed/measure.py --classes 200 --hot
 
 It prints the best time of seven runs of each, in turn, their ratio, and the peak memory for this number of classes and
-for twice as many.
+for half as many; with --hot the functions in which callgrind counts the most instructions instead.
 """
 
+import argparse
 import os
 import pathlib
 import struct
@@ -19,7 +23,6 @@ import tempfile
 import time
 
 PROGRAM = pathlib.Path(__file__).resolve().parents[2] / "crates/world/out/world"
-METHODS = 30
 
 
 def u2(number):
@@ -30,7 +33,15 @@ def text(name):
     return b"\x01" + u2(len(name)) + name
 
 
-def class_file(name, superclass, methods):
+def constants(count, first):
+    """So many constants from a place on: texts and numbers in turn."""
+    made = []
+    for k in range(count):
+        made.append(text(b"constant text %05d" % (first + k)) if k % 2 == 0 else b"\x03" + struct.pack(">I", k))
+    return made
+
+
+def class_file(name, superclass, methods, more=0):
     """Methods are (flags, name, max_locals, calls), and a call is (class, name), all with the descriptor ()V."""
     pool = [text(name), b"\x07" + u2(1), text(superclass), b"\x07" + u2(3), text(b"()V"), text(b"Code")]
     body = u2(0x21) + u2(2) + u2(4 if superclass else 0) + u2(0) + u2(0) + u2(len(methods))
@@ -46,10 +57,11 @@ def class_file(name, superclass, methods):
         code += b"\xb1"
         body += u2(flags) + u2(own) + u2(5) + u2(1) + u2(6) + struct.pack(">I", 12 + len(code))
         body += u2(0) + u2(max_locals) + struct.pack(">I", len(code)) + code + u2(0) + u2(0)
+    pool += constants(more, len(pool))
     return b"\xca\xfe\xba\xbe" + u2(0) + u2(52) + u2(len(pool) + 1) + b"".join(pool) + body + u2(0)
 
 
-def make(folder, count):
+def make(folder, count, methods_each, more):
     classes = folder / "classes"
     (classes / "java/lang").mkdir(parents=True)
     constructor = [(0x01, b"<init>", 1, [])]
@@ -57,10 +69,10 @@ def make(folder, count):
     for i in range(count):
         name = b"C%05d" % i
         methods = []
-        for k in range(METHODS):
-            calls = [(name, b"m%d" % (k + 1))] if k + 1 < METHODS else []
+        for k in range(methods_each):
+            calls = [(name, b"m%d" % (k + 1))] if k + 1 < methods_each else []
             methods.append((0x09, b"m%d" % k, 0, calls))
-        (classes / f"{name.decode()}.class").write_bytes(class_file(name, b"java/lang/Object", methods))
+        (classes / f"{name.decode()}.class").write_bytes(class_file(name, b"java/lang/Object", methods, more))
     (folder / "roots").write_text("static C00000.m0 ()V\n")
     return sorted(str(path) for path in classes.rglob("*.class"))
 
@@ -79,24 +91,42 @@ def peak(words):
     return usage.ru_maxrss
 
 
+def hot_spots(words, folder):
+    """The functions with the most instructions of their own."""
+    counts = folder / "counts"
+    command = ["valgrind", "--tool=callgrind", f"--callgrind-out-file={counts}", *words]
+    subprocess.run(command, stdout=subprocess.DEVNULL, stderr=subprocess.DEVNULL, check=True)
+    table = subprocess.run(["callgrind_annotate", str(counts)], stdout=subprocess.PIPE, check=True, text=True).stdout
+    rows = [line for line in table.splitlines() if "%)" in line]
+    return rows[:16]
+
+
 def main():
-    count = int(sys.argv[1]) if len(sys.argv) > 1 else 1000
+    parser = argparse.ArgumentParser()
+    parser.add_argument("--classes", type=int, default=1000)
+    parser.add_argument("--methods", type=int, default=30)
+    parser.add_argument("--constants", type=int, default=0)
+    parser.add_argument("--hot", action="store_true")
+    asked = parser.parse_args()
     with tempfile.TemporaryDirectory() as one, tempfile.TemporaryDirectory() as two:
         one, two = pathlib.Path(one), pathlib.Path(two)
-        files = make(one, count)
-        make(two, 2 * count)
+        files = make(one, asked.classes, asked.methods, asked.constants)
         words = [str(PROGRAM), "--roots", str(one / "roots"), str(one / "classes")]
-        larger = [str(PROGRAM), "--roots", str(two / "roots"), str(two / "classes")]
+        if asked.hot:
+            print("\n".join(hot_spots(words, one)))
+            return
+        make(two, asked.classes // 2, asked.methods, asked.constants)
+        smaller = [str(PROGRAM), "--roots", str(two / "roots"), str(two / "classes")]
         times, cats = [], []
         for _ in range(7):
             seconds, report = timed(words)
             times.append(seconds)
             cats.append(timed(["cat", *files])[0])
-        assert f"methods {METHODS}\n".encode() in report
+        assert f"methods {asked.methods}\n".encode() in report
         size = sum(os.path.getsize(path) for path in files)
         print(f"{len(files)} classes, {size} bytes")
-        print(f"world {min(times):.3f} s, cat {min(cats):.4f} s, ratio {min(times) / min(cats):.0f}")
-        print(f"peak memory {peak(words)} KiB, with twice as many classes {peak(larger)} KiB")
+        print(f"world {min(times):.3f} s, cat {min(cats):.4f} s, ratio {min(times) / min(cats):.1f}")
+        print(f"peak memory {peak(words)} KiB, with half as many classes {peak(smaller)} KiB")
 
 
 if __name__ == "__main__":
