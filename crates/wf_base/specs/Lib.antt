@@ -11,3 +11,4 @@ pub mod Report
 pub mod Members
 pub mod Words
 pub mod Writing
+pub mod Text

@@ -8,20 +8,42 @@ ghost use Rattle.std.specs.Ordering.{nat_cmp, as_partial_cmp};
 use std::alloc::{AllocError, Global};
 use std::cmp::Ordering;
 use std::marker::Model;
+use std::sync::Arc;
 
 /// Bytes that are a name, a path, a piece of code or a line. A contract sees them as a list of numbers
 /// below 256. Texts are ordered by their bytes.
 #[derive(Debug, Drop)]
 pub struct Text {
-    bytes: Vec<u8>,
+    bytes: Bytes,
+}
+
+/// A text has its bytes alone, or shares them with its clones.
+#[derive(Debug, Drop)]
+enum Bytes {
+    Own(Vec<u8>),
+    Shared(Arc<Vec<u8>>),
+}
+
+impl Bytes {
+    ghost use Rattle.wf_base.specs.Text.{bytes_of};
+
+    fn as_slice(&self) -> &[u8]
+        ensures { result.now ≡ bytes_of self.now }
+    {
+        match self {
+            Bytes::Own(bytes) => bytes.as_slice(),
+            Bytes::Shared(bytes) => bytes.as_slice(),
+        }
+    }
 }
 
 impl Model for Text {
     ghost use Rattle.std.specs.Prelude.{List, ℕ};
+    ghost use Rattle.wf_base.specs.Text.{bytes_of};
 
     ghost Value = { List ℕ };
 
-    ghost view = { λ t. t.bytes.items };
+    ghost view = { λ t. bytes_of t.bytes };
 }
 
 impl Text {
@@ -29,24 +51,32 @@ impl Text {
     pub fn new(alloc: Global) -> Text
         ensures { result ≡ [] }
     {
-        Text {
-            bytes: Vec::new(alloc),
-        }
+        Text::from_vec(Vec::new(alloc))
     }
 
     /// A copy of the bytes.
     pub fn from_slice(alloc: Global, bytes: &[u8]) -> Result<Text, AllocError>
         ensures { IfOk result (λ text. text ≡ bytes.now) }
     {
+        Ok(Text::from_vec(Vec::from_slice(alloc, bytes)?))
+    }
+
+    /// A copy of the bytes that its clones share, so that cloning it takes no memory.
+    pub fn shared(alloc: Global, bytes: &[u8]) -> Result<Text, AllocError>
+        ensures { IfOk result (λ text. text ≡ bytes.now) }
+    {
+        let bytes = Arc::new(alloc, Vec::from_slice(alloc, bytes)?)?;
         Ok(Text {
-            bytes: Vec::from_slice(alloc, bytes)?,
+            bytes: Bytes::Shared(bytes),
         })
     }
 
     pub fn from_vec(bytes: Vec<u8>) -> Text
         ensures { result ≡ bytes.items }
     {
-        Text { bytes }
+        Text {
+            bytes: Bytes::Own(bytes),
+        }
     }
 
     pub fn as_slice(&self) -> &[u8]
@@ -60,7 +90,28 @@ impl Text {
         ensures ok { OnOk result (self.new ≡ self.old ++ bytes.now) }
         ensures err { OnErr result (self.new ≡ self.old) }
     {
-        self.bytes.extend_from_slice(bytes)
+        match &mut self.bytes {
+            Bytes::Own(own) => own.extend_from_slice(bytes),
+            Bytes::Shared(shared) => {
+                let mut own = Vec::from_slice(*shared.allocator(), shared.as_slice())?;
+                own.extend_from_slice(bytes)?;
+                self.bytes = Bytes::Own(own);
+                Ok(())
+            }
+        }
+    }
+}
+
+impl Clone for Text {
+    ghost is_clone = { λ text copy. copy ≡ text };
+
+    fn clone(&self) -> Result<Text, AllocError> {
+        Ok(Text {
+            bytes: match &self.bytes {
+                Bytes::Own(bytes) => Bytes::Own(bytes.clone()?),
+                Bytes::Shared(bytes) => Bytes::Shared(bytes.clone()?),
+            },
+        })
     }
 }
 
@@ -70,7 +121,7 @@ impl PartialEq for Text {
     ghost laws = { Prim.search (comparing, rules) };
 
     fn eq(&self, other: &Text) -> bool {
-        self.bytes == other.bytes
+        self.as_slice() == other.as_slice()
     }
 }
 
@@ -98,6 +149,6 @@ impl Ord for Text {
     ghost matches_eq = { Prim.search (comparing, rules) };
 
     fn cmp(&self, other: &Text) -> Ordering {
-        self.bytes.cmp(&other.bytes)
+        self.as_slice().cmp(&other.as_slice())
     }
 }
