@@ -8,6 +8,7 @@ mod PoolSteady
 mod Steady
 mod SteadyLaws
 mod Strip
+mod Unescaping
 mod WritableLaws
 mod WritablePool
 mod WritingLaws

@@ -6,7 +6,7 @@ use std::alloc::{AllocError, Global};
 
 /// A field or method by its name: the class that declares it, its own name and its descriptor. Names are
 /// ordered by the class, then by the name, then by the descriptor, each by its bytes.
-#[derive(Debug, Drop, PartialEq, Eq, PartialOrd, Ord)]
+#[derive(Debug, Drop, PartialEq, Eq, PartialOrd, Ord, Hash)]
 pub struct MemberName {
     pub class: Text,
     pub name: Text,

@@ -1,12 +1,24 @@
-ghost use Rattle.std.specs.Prelude.{◌≡◌, ◌<◌, ◌++◌, ◌∷◌, [], ℕ, List, OnOk, IfOk};
+ghost use Rattle.std.specs.Prelude.{◌≡◌, ◌<◌, ◌++◌, ◌∷◌, [], ℕ, List, OnOk, IfOk, IfSome, option_to_list};
 ghost use Rattle.std.specs.Option.{option_copied};
 ghost use Rattle.std.specs.Str.{bytes_eq};
 ghost use Rattle.wf_base.specs.declared.member.MemberName.{MemberName};
-ghost use Rattle.wf_base.specs.NameForm.{is_plain, hex_digit, escaped_byte, escaped, member_text, member_of, strip};
+ghost use Rattle.wf_base.specs.declared.name_form.Escape.TheVariants as escape;
+ghost use Rattle.wf_base.specs.NameForm.{is_plain, hex_digit, escaped_byte, escaped, member_text, member_of, strip, hex_value, escape_of, escape_on, unescaped_from, name_of};
 
 use crate::member::MemberName;
 use crate::text::Text;
 use std::alloc::{AllocError, Global};
+
+/// Where a word in the form of names goes on.
+#[derive(Clone, Copy, Debug)]
+enum Escape {
+    /// Outside an escape.
+    Outside,
+    /// Behind a backslash.
+    Begun,
+    /// Behind a backslash and this digit.
+    High(u8),
+}
 
 fn is_plain(b: u8) -> bool
     ensures { result ≡ is_plain b }
@@ -121,4 +133,81 @@ pub fn is_member_text(text: &[u8], class: &[u8], name: &[u8], desc: &[u8]) -> bo
         Some(rest) => rest.is_empty(),
         None => false,
     }
+}
+
+/// The value of a hexadecimal digit in lower case.
+fn hex_value(d: u8) -> Option<u8>
+    ensures value { result ≡ hex_value d }
+    ensures small { IfSome result (λ v. v < 16) }
+{
+    match d {
+        b'0'..=b'9' => Some(d - b'0'),
+        b'a'..=b'f' => Some(d - b'a' + 10),
+        _ => None,
+    }
+}
+
+/// The byte of an escape with these digits, which is none that stands for itself.
+fn escape_of(high: u8, low: u8) -> Option<u8>
+    ensures { result ≡ escape_of high low }
+{
+    let high = hex_value(high)?;
+    let low = hex_value(low)?;
+    let b = high * 16 + low;
+    if is_plain(b) { None } else { Some(b) }
+}
+
+/// Where a word goes on behind a byte, and the byte of the name that ends there.
+fn escape_on(escape: Escape, b: u8) -> Option<(Escape, Option<u8>)>
+    ensures { result ≡ escape_on escape b }
+{
+    match escape {
+        Escape::Outside if b == b'\\' => Some((Escape::Begun, None)),
+        Escape::Outside if is_plain(b) => Some((Escape::Outside, Some(b))),
+        Escape::Outside => None,
+        Escape::Begun => Some((Escape::High(b), None)),
+        Escape::High(high) => Some((Escape::Outside, Some(escape_of(high, b)?))),
+    }
+}
+
+fn push_some(out: &mut Vec<u8>, b: Option<u8>) -> Result<(), AllocError>
+    ensures { OnOk result (out.new.items ≡ out.old.items ++ option_to_list b) }
+{
+    match b {
+        Some(b) => Ok(out.push(b)?),
+        None => Ok(()),
+    }
+}
+
+#[tactic(auto, using(crate::proofs::Unescaping::goes_on, crate::proofs::Unescaping::stops, crate::proofs::Unescaping::ends, crate::proofs::Unescaping::ends_begun, crate::proofs::Unescaping::ends_high))]
+/// The bytes that a word in the form of names stands for.
+fn unescaped(alloc: Global, word: &[u8]) -> Result<Option<Text>, AllocError>
+    ensures { IfOk result (λ name. name ≡ unescaped_from escape.Outside word.now) }
+{
+    let mut name = Vec::new(alloc);
+    let mut escape = Escape::Outside;
+    for b in word {
+        match escape_on(escape, *b) {
+            Some((next, byte)) => {
+                push_some(&mut name, byte)?;
+                escape = next;
+            }
+            None => return Ok(None),
+        }
+    }
+    match escape {
+        Escape::Outside => Ok(Some(Text::from_vec(name))),
+        Escape::Begun => Ok(None),
+        Escape::High(_) => Ok(None),
+    }
+}
+
+/// The name that a word in the form of names stands for. None where it is empty or not in that form.
+pub fn read_name(alloc: Global, word: &[u8]) -> Result<Option<Text>, AllocError>
+    ensures { IfOk result (λ name. name ≡ name_of word.now) }
+{
+    if word.is_empty() {
+        return Ok(None);
+    }
+    unescaped(alloc, word)
 }
