@@ -13,3 +13,4 @@ mod WritableLaws
 mod WritablePool
 mod WritingLaws
 mod Written
+mod NameLaws

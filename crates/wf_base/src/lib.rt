@@ -34,7 +34,7 @@ pub use ids::{ClassId, FieldId, MethodId, NodeId, TargetId, TypeId};
 pub use instr::{Case, Instr, Placed};
 pub use items::Items;
 pub use member::{MemberName, MemberRef};
-pub use name_form::{is_member_text, member_text, name_text, read_name};
+pub use name_form::{is_member_text, member_text, name_text, names_are_read_back, read_name};
 pub use names::{
     is_class_name, is_constructor_name, is_field_name, is_initializer_name, is_method_name,
     is_object_name,

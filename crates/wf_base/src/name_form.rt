@@ -1,8 +1,9 @@
-ghost use Rattle.std.specs.Prelude.{◌≡◌, ◌<◌, ◌++◌, ◌∷◌, [], ℕ, List, OnOk, IfOk, IfSome, option_to_list};
+ghost use Rattle.std.specs.Prelude.{◌≡◌, ◌<◌, ◌++◌, ◌∷◌, [], ℕ, List, Some, length, OnOk, IfOk, IfSome, option_to_list};
 ghost use Rattle.std.specs.Option.{option_copied};
 ghost use Rattle.std.specs.Str.{bytes_eq};
 ghost use Rattle.wf_base.specs.declared.member.MemberName.{MemberName};
 ghost use Rattle.wf_base.specs.declared.name_form.Escape.TheVariants as escape;
+ghost use Rattle.wf_base.specs.Grammar.{IsBytes};
 ghost use Rattle.wf_base.specs.NameForm.{is_plain, hex_digit, escaped_byte, escaped, member_text, member_of, strip, hex_value, escape_of, escape_on, unescaped_from, name_of};
 
 use crate::member::MemberName;
@@ -211,3 +212,10 @@ pub fn read_name(alloc: Global, word: &[u8]) -> Result<Option<Text>, AllocError>
     }
     unescaped(alloc, word)
 }
+
+/// The law between printing and reading names: what is printed of a name is read as that name, and no other
+/// word is.
+pub fn names_are_read_back()
+    ensures printed { (name : List ℕ) → IsBytes name → 0 < length name → name_of (escaped name) ≡ Some name }
+    ensures read { (word name : List ℕ) → name_of word ≡ Some name → escaped name ≡ word }
+{}

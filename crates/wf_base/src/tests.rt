@@ -3,6 +3,7 @@ ghost use Rattle.std.specs.Prelude.{◌<◌, ◌^◌, length, IfOk};
 use crate::{
     Cursor, DescFault, Items, Kind, MemberName, Text, is_field_descriptor, is_member_text,
     is_method_descriptor, member_text, name_text, read_descriptor, read_field_descriptor,
+    read_name,
 };
 use std::alloc::{AllocError, Global};
 use std::test::Fail;
@@ -28,6 +29,31 @@ fn texts_and_items(rt: HostRuntime) -> Result<(), Fail> {
     items.as_mut_slice().reverse();
     assert_eq!(rt; items.as_slice(), [2, 1, 0].as_slice());
     assert_eq!(rt; Items::from_vec(items.into_vec()).len(), 3);
+    Ok(())
+}
+
+/// A text that is shared is as good as one of its own.
+#[test]
+fn shared_texts(rt: HostRuntime) -> Result<(), Fail> {
+    let alloc = rt.alloc();
+    let shared = Text::shared(alloc, b"A.main")?;
+    let mut longer = shared.clone()?;
+    longer.push_slice(b" ()V")?;
+    assert_eq!(rt; shared.as_slice(), b"A.main".as_slice());
+    assert_eq!(rt; longer.as_slice(), b"A.main ()V".as_slice());
+    assert!(rt; shared == text(alloc, "A.main")?);
+    Ok(())
+}
+
+#[test]
+fn words_are_names(rt: HostRuntime) -> Result<(), Fail> {
+    let alloc = rt.alloc();
+    let name = read_name(alloc, b"a\\20b\\c3\\a9;")?.ok_or("no name")?;
+    assert_eq!(rt; name.as_slice(), b"a b\xc3\xa9;".as_slice());
+    let words: [&[u8]; 7] = [b"", b"a b", b"a\\", b"a\\2", b"a\\2G", b"a\\41", b"a\\C3"];
+    for word in words {
+        assert!(rt; read_name(alloc, word)?.is_none());
+    }
     Ok(())
 }
 

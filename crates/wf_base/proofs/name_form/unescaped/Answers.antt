@@ -1,4 +1,4 @@
-use Rattle.std.proofs.Common.{sym, ap, ◌∙◌, ◌<◌, ◌≤◌, length, Some, List, ℕ, arith}
+use Rattle.std.proofs.Common.{sym, ap, ◌∙◌, Some, List, ℕ, arith}
 use Rattle.wf_base.proofs.Unescaping.{stops, ends}
 use Rattle.wf_base.proofs.name_form.unescaped.Goals as goal
 
