@@ -5,10 +5,10 @@ use Rattle.wf_base.specs.declared.member.MemberName.{MemberName}
 use Rattle.wf_io.specs.declared.tree.MemFile.{MemFile}
 use Rattle.wf_io.specs.declared.tree.Call.{Call}
 use Rattle.wf_io.specs.Faults.{Rose}
-use Rattle.world.specs.declared.fault.RunFault.{RunFault}
-use Rattle.world.specs.declared.fault.RunFault.TheVariants.{Unbuilt, BadClass, ReadFault, WriteFault, NoMemory}
+use Rattle.wf_run.specs.declared.fault.RunFault.{RunFault}
+use Rattle.wf_run.specs.declared.fault.RunFault.TheVariants.{Unbuilt, BadClass, ReadFault, WriteFault, NoMemory}
 use Rattle.world.specs.Command.{IsCommand, IsOfWords}
-use Rattle.world.specs.Faults.{is_refusal, IsOfTree}
+use Rattle.wf_run.specs.Faults.{is_refusal, IsOfTree}
 use Rattle.world.specs.Output.{IsKnown, IsStatusOf, TellsFault, TellsOrNoMemory, status_of}
 use Rattle.world.specs.Outcome.{Answer, Refused, Analysed, answer_of, Outcome, no_command, command, RefusesFor, Loads}
 use Rattle.world.specs.Run.{IsRefusal, TellsRefusal}

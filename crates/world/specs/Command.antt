@@ -2,8 +2,8 @@
 use Rattle.std.specs.Prelude.{◌≡◌, ℕ, List, [], ◌∷◌, Some, slice_get, codes, map}
 use Rattle.std.specs.Str.{IsUtf8}
 use Rattle.std.specs.Global.{Vec}
-use Rattle.world.specs.declared.fault.RunFault.{RunFault}
-use Rattle.world.specs.declared.fault.RunFault.TheVariants.{Unbuilt, NoMemory}
+use Rattle.wf_run.specs.declared.fault.RunFault.{RunFault}
+use Rattle.wf_run.specs.declared.fault.RunFault.TheVariants.{Unbuilt, NoMemory}
 
 -- a word that is a path: it is UTF-8, and begins with `-` only if it is `-`
 pub record IsPath (word : List ℕ) : Type 0 where

@@ -1,17 +1,6 @@
 pub mod Command
-pub mod Faults
-pub mod Code
-pub mod FirstForm
-pub mod Form
 pub mod Run
-pub mod Walk
 pub mod Load
 pub mod Output
 pub mod Outcome
-pub mod Nodes
-pub mod Rows
-pub mod Calls
-pub mod Solution
-pub mod Passes
-pub mod Statics
 pub mod Made

@@ -4,15 +4,16 @@ use Rattle.wf_base.specs.declared.class_info.ClassInfo.{ClassInfo}
 use Rattle.wf_base.specs.declared.member.MemberName.{MemberName}
 use Rattle.wf_io.specs.declared.tree.MemFile.{MemFile}
 use Rattle.wf_io.specs.Tree.{content}
-use Rattle.world.specs.declared.limits.TheConstants.{MAX_FILE_BYTES}
-use Rattle.world.specs.declared.fault.RunFault.{RunFault}
-use Rattle.world.specs.declared.fault.RunFault.TheVariants.{Unbuilt}
-use Rattle.world.specs.declared.program.Program.{Program}
-use Rattle.world.specs.Calls.{calls_are_known}
+use Rattle.wf_run.specs.declared.limits.TheConstants.{MAX_FILE_BYTES}
+use Rattle.wf_run.specs.declared.fault.RunFault.{RunFault}
+use Rattle.wf_run.specs.declared.fault.RunFault.TheVariants.{Unbuilt}
+use Rattle.wf_first.specs.declared.program.Program.{Program}
+use Rattle.wf_first.specs.Calls.{calls_are_known}
 use Rattle.world.specs.Command.{IsCommand}
-use Rattle.world.specs.Faults.{is_refusal}
-use Rattle.world.specs.Walk.{noted_from}
-use Rattle.world.specs.Load.{classes_of, has_object, only_line, root_in, is_within_limits}
+use Rattle.wf_run.specs.Faults.{is_refusal}
+use Rattle.wf_run.specs.Walk.{noted_from}
+use Rattle.wf_first.specs.Roots.{has_object, only_line, root_in, is_within_limits}
+use Rattle.world.specs.Load.{classes_of}
 
 -- What is due: the refusal of the input for this fault; a read of a roots file that isn't there, which can
 -- only fail; or the world of these classes for this root.

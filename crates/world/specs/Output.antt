@@ -6,9 +6,9 @@ use Rattle.wf_base.specs.Report.{line}
 use Rattle.wf_base.specs.Words.{why_word}
 use Rattle.wf_io.specs.declared.tree.Call.{Call}
 use Rattle.wf_io.specs.Faults.{Rose}
-use Rattle.world.specs.declared.fault.RunFault.{RunFault}
-use Rattle.world.specs.declared.fault.RunFault.TheVariants.{Unbuilt, BadClass, ReadFault, WriteFault, NoMemory}
-use Rattle.world.specs.Faults.{IsLastFailed}
+use Rattle.wf_run.specs.declared.fault.RunFault.{RunFault}
+use Rattle.wf_run.specs.declared.fault.RunFault.TheVariants.{Unbuilt, BadClass, ReadFault, WriteFault, NoMemory}
+use Rattle.wf_run.specs.Faults.{IsLastFailed}
 
 -- a sink that had some bytes has a beginning of these behind them, and not all
 pub record IsCut (had bytes : List ℕ) (taken : Option (List ℕ)) : Type 0 where

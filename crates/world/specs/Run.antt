@@ -6,7 +6,7 @@ use Rattle.wf_base.specs.declared.world.World.{World}
 use Rattle.wf_base.specs.Report.{report_text}
 use Rattle.wf_io.specs.declared.tree.MemFile.{MemFile}
 use Rattle.wf_sys.specs.WorldOf.{IsLeastWorld}
-use Rattle.world.specs.declared.fault.RunFault.{RunFault}
+use Rattle.wf_run.specs.declared.fault.RunFault.{RunFault}
 use Rattle.world.specs.Outcome.{Outcome, Refused, Analysed}
 use Rattle.world.specs.Output.{IsCut, Got, status_of, line_of}
 

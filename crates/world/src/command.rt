@@ -1,11 +1,11 @@
 ghost use Rattle.std.specs.Prelude.{◌≡◌, ◌↔◌, List, ℕ, map, IsTrue, IfSome, IfNone, IfOk, IfErr};
 ghost use Rattle.world.specs.Command.{IsPath, IsCommand, words_of, IsOfWords};
-ghost use Rattle.world.specs.Faults.{IsOwn};
+ghost use Rattle.wf_run.specs.Faults.{IsOwn};
 
-use crate::fault::RunFault;
 use std::alloc::Global;
 use std::str;
 use wf_base::Text;
+use wf_run::RunFault;
 
 /// What the words ask for.
 #[derive(Debug, Drop)]

@@ -1,25 +1,25 @@
 ghost use Rattle.std.specs.Prelude.{◌≡◌, ◌+◌, ◌≤◌, true, List, [], ◌∷◌, Some, length, IfOk, IfErr};
 ghost use Rattle.wf_io.specs.declared.tree.MemFile.{MemFile};
 ghost use Rattle.wf_io.specs.Tree.{content};
-ghost use Rattle.world.specs.Faults.{IsOfTree, IsOwn, IsBadClass, Gives, Reads, ReadsFile};
-ghost use Rattle.world.specs.Form.{AllOfForm, IsOfForm};
-ghost use Rattle.world.specs.Load.{class_path, add_class, take_file, read_file, classes_of, has_object, only_line, root_in};
+ghost use Rattle.wf_run.specs.Faults.{IsOfTree, IsOwn, IsBadClass, Gives, Reads, ReadsFile};
+ghost use Rattle.wf_first.specs.Form.{AllOfForm, IsOfForm};
+ghost use Rattle.wf_first.specs.Roots.{has_object, only_line, root_in};
+ghost use Rattle.world.specs.Load.{class_path, add_class, take_file, read_file, classes_of};
 ghost use Rattle.wf_io.specs.declared.tree.Call.TheVariants as call;
-ghost use Rattle.world.specs.Made.{IsOfCalls, file_calls, classes_calls, roots_calls, calls_of};
+ghost use Rattle.wf_run.specs.Made.{IsOfCalls};
+ghost use Rattle.world.specs.Made.{file_calls, classes_calls, roots_calls, calls_of};
 ghost use Rattle.world.specs.Outcome.{with_root, with_roots, answer_of, Loads};
 
-use crate::calls::calls_are_known;
 use crate::command::Command;
-use crate::fault::RunFault;
-use crate::form::is_first_form;
-use crate::limits::{MAX_BYTES, MAX_FILE_BYTES};
-use crate::program::{Program, has_object, is_within_limits, only_line, root_in};
-use crate::walk::{path_in, read_fault, walk_from};
 use std::alloc::{AllocError, Global};
 use wf_base::{ClassInfo, Items, Text, Why};
 use wf_classfile::read_class;
 use wf_constpool::ClassFault;
-use wf_io::{Tree, TreeFault};
+use wf_first::{
+    Program, calls_are_known, has_object, is_first_form, is_within_limits, only_line, root_in,
+};
+use wf_io::Tree;
+use wf_run::{MAX_BYTES, MAX_FILE_BYTES, RunFault, path_in, read_bytes, walk_from};
 
 /// The class files read so far.
 #[derive(Debug, Drop)]
@@ -27,23 +27,6 @@ pub struct ReadSoFar {
     /// The sum of their lengths.
     pub bytes: u32,
     pub classes: Items<ClassInfo>,
-}
-
-/// The bytes of a file; not built where it is longer than `MAX_FILE_BYTES`.
-pub fn read_bytes<T: Tree>(alloc: Global, tree: &mut T, path: &Text) -> Result<Text, RunFault>
-    ensures bytes { (files : List MemFile) → T.told tree.old ≡ Some files → ReadsFile (content files path.now) result }
-    ensures within { IfOk result (λ bytes. length bytes ≤ MAX_FILE_BYTES) }
-    ensures same { T.told tree.new ≡ T.told tree.old }
-    ensures grows { T.count tree.old ≤ T.count tree.new }
-    ensures fault { IfErr result (IsOfTree (T.count tree.old) (T.count tree.new) (T.last_failed tree.new)) }
-    ensures made { IfErr result (IsOfCalls (call.Read path.now ∷ []) (T.last_failed tree.new)) }
-{
-    match tree.read(alloc, path, MAX_FILE_BYTES) {
-        Ok(bytes) => Ok(bytes),
-        Err(TreeFault::More) => Err(RunFault::Unbuilt),
-        Err(TreeFault::Failed) => Err(read_fault(alloc, path)),
-        Err(TreeFault::NoMemory) => Err(RunFault::NoMemory),
-    }
 }
 
 /// The path at which a class has to stand.
@@ -57,7 +40,7 @@ fn class_path(alloc: Global, dir: &Text, name: &Text) -> Result<Text, AllocError
 
 /// Adds the class of a file of so many bytes, where it is of the first form and the file stands at the path
 /// of its name.
-#[tactic(auto, using(crate::proofs::FormKept::one_more_of_form))]
+#[tactic(auto, using(wf_first::proofs::FormKept::one_more_of_form))]
 fn add_class(
     alloc: Global,
     dir: &Text,
@@ -147,7 +130,7 @@ fn read_file<T: Tree>(
 
 /// Reads the noted files in their order, and gives their classes. The first file that passes a limit, spells
 /// no class, or whose class isn't of the form or belongs at another path is refused.
-#[tactic(auto, using(crate::proofs::FormKept::none_of_form))]
+#[tactic(auto, using(wf_first::proofs::FormKept::none_of_form))]
 pub fn read_classes<T: Tree>(
     alloc: Global,
     tree: &mut T,
@@ -174,7 +157,7 @@ pub fn read_classes<T: Tree>(
 }
 
 /// Makes a program of the classes and the root that the bytes of a roots file name.
-#[tactic(auto, using(crate::proofs::FormKept::root_declared))]
+#[tactic(auto, using(wf_first::proofs::FormKept::root_declared))]
 fn rooted(alloc: Global, classes: Items<ClassInfo>, roots: &Text) -> Result<Program, RunFault>
     requires form { AllOfForm classes }
     requires object { has_object classes ≡ true }

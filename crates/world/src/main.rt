@@ -1,23 +1,11 @@
 //! `world` reads directories of class files and prints which types, methods and fields an image needs.
 #![tactic(auto)]
 
-mod calls;
-mod code;
 mod command;
-mod fault;
-mod form;
-mod laws;
-mod least;
-mod limits;
 mod load;
-mod nodes;
 mod output;
-mod program;
 mod report;
-mod rows;
 mod run;
-mod solver;
-mod walk;
 
 use output::tell;
 use run::world_run;

@@ -5,22 +5,22 @@ ghost use Rattle.wf_io.specs.declared.tree.MemFile.{MemFile};
 ghost use Rattle.wf_io.specs.declared.tree.Call.{Call};
 ghost use Rattle.wf_io.specs.Faults.{Rose};
 ghost use Rattle.world.specs.Command.{words_of};
-ghost use Rattle.world.specs.Faults.{IsOfTree};
+ghost use Rattle.wf_run.specs.Faults.{IsOfTree};
 ghost use Rattle.world.specs.Made.{IsOfRun, IsCallOfRun};
 ghost use Rattle.world.specs.Outcome.{Analysed, Outcome, RefusesFor};
 ghost use Rattle.world.specs.Output.{IsCut, Got, TellsFault, TellsOrNoMemory, IsStatusOf, status_of, line_of};
 ghost use Rattle.world.specs.Run.{IsReport, Prints, PrintsPart, IsRefusal, TellsRefusal, IsStatus};
 
 use crate::command::command_of;
-use crate::fault::RunFault;
-use crate::least::least_world;
 use crate::load::load;
 use crate::output::{tell, write_all};
 use crate::report::report;
 use std::alloc::{AllocError, Global};
 use std::thread::Threads;
 use wf_base::{Text, Why, name_text, why_word};
+use wf_first::least_world;
 use wf_io::{Sink, Tree};
+use wf_run::RunFault;
 
 /// The report that the words ask for.
 fn analyse<T: Tree>(alloc: Global, words: &[Vec<u8>], tree: &mut T) -> Result<Text, RunFault>

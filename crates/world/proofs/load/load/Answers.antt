@@ -1,6 +1,7 @@
 use Rattle.std.proofs.Common.{◌∙◌}
 use Rattle.std.proofs.lemmas.Result.{err_from_is_err_and}
-use Rattle.world.proofs.MadeLaws.{of_more, more_result, walk_of_run, classes_of_run, roots_of_run}
+use Rattle.wf_run.proofs.MadeLaws.{of_more, more_result}
+use Rattle.world.proofs.MadeLaws.{walk_of_run, classes_of_run, roots_of_run}
 use Rattle.world.proofs.load.load.Goals as goal
 
 pub returns-in_err-paths-clause-made : goal.returns-in_err-paths-clause-made

@@ -2,8 +2,8 @@ use Rattle.std.proofs.Common.{◌∙◌, arith}
 use Rattle.std.proofs.lemmas.Result.{err_from_is_err_and}
 use Rattle.world.specs.Load.{read_file}
 use Rattle.world.specs.Made.{file_calls}
-use Rattle.world.proofs.EachLaws.{goes_on}
-use Rattle.world.proofs.MadeLaws.{of_more, calls_here, calls_go_on}
+use Rattle.wf_run.proofs.EachLaws.{goes_on}
+use Rattle.wf_run.proofs.MadeLaws.{of_more, calls_here, calls_go_on}
 use Rattle.world.proofs.load.read_classes.Goals as goal
 
 pub returns-in_err-read_file-clause-made : goal.returns-in_err-read_file-clause-made

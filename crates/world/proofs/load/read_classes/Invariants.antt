@@ -1,11 +1,12 @@
 use Rattle.std.proofs.Common.{◌≡◌, ◌≤◌, List, Some, [], drop}
 use Rattle.wf_io.specs.declared.tree.MemFile.{MemFile}
-use Rattle.world.specs.declared.limits.TheConstants.{MAX_BYTES}
-use Rattle.world.specs.Form.{AllOfForm}
-use Rattle.world.specs.Walk.{each}
+use Rattle.wf_run.specs.declared.limits.TheConstants.{MAX_BYTES}
+use Rattle.wf_first.specs.Form.{AllOfForm}
+use Rattle.wf_run.specs.Walk.{each}
 use Rattle.world.specs.Load.{read_file}
-use Rattle.world.specs.Made.{each_calls, file_calls, classes_calls}
-use Rattle.world.proofs.MadeLaws.{IsWithin}
+use Rattle.wf_run.specs.Made.{each_calls}
+use Rattle.world.specs.Made.{file_calls, classes_calls}
+use Rattle.wf_run.proofs.MadeLaws.{IsWithin}
 use Rattle.world.proofs.load.read_classes.Given as goal
 
 -- reading the files that are left is reading all, and their calls are among all

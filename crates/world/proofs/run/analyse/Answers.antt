@@ -42,3 +42,15 @@ returns-in_err-program-clause-made g c = λ files told.
     let p = err_from_is_err_and r.result r.ensures.1 in
     let found = c.in_ok-command.command in
     rw (p.1, p.2) (of_command files (words_of c.args.words.now) found.roots found.dir _ c.in_err-program.field-0.0 c.in_ok-command.ensures.ok (c.in_err-program.ensures.made files told))
+
+pub returns-in_err-report-clause-refused : goal.returns-in_err-report-clause-refused
+returns-in_err-report-clause-refused g c = λ files told.
+    let r = c.from_residual-in_err-report in
+    let p = err_from_is_err_and r.result r.ensures.1 in
+    rw (p.1, p.2) (λ due. absurd cc)
+
+pub returns-in_err-report-clause-made : goal.returns-in_err-report-clause-made
+returns-in_err-report-clause-made g c = λ files told.
+    let r = c.from_residual-in_err-report in
+    let p = err_from_is_err_and r.result r.ensures.1 in
+    rw (p.1, p.2) tt

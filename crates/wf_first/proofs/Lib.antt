@@ -1,0 +1,14 @@
+mod CodeLaws
+mod ListLaws
+mod PassLaws
+pub mod FormKept
+mod MemberLists
+mod LeastWorld
+mod NodeLaws
+mod NumberLaws
+mod Solving
+mod PathLaws
+mod RowLaws
+mod FormLaws
+mod RowNodes
+mod StaticLaws

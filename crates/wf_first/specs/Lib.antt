@@ -1,0 +1,10 @@
+pub mod Code
+pub mod FirstForm
+pub mod Form
+pub mod Roots
+pub mod Nodes
+pub mod Rows
+pub mod Calls
+pub mod Solution
+pub mod Passes
+pub mod Statics

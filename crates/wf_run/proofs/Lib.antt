@@ -1,0 +1,4 @@
+pub mod EachLaws
+pub mod FaultLaws
+mod WalkLaws
+pub mod MadeLaws

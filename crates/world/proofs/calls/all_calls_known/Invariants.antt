@@ -1,7 +1,0 @@
-use Rattle.std.proofs.Common.{◌≡◌, drop}
-use Rattle.std.specs.List.{list_all}
-use Rattle.world.specs.Calls.{class_calls_known}
-use Rattle.world.proofs.calls.all_calls_known.Given as goal
-
-abbrev pub invariant-loop-class : goal.invariant-loop-class
-invariant-loop-class l = list_all (class_calls_known l.statics) (drop l.class-index l.classes) ≡ list_all (class_calls_known l.statics) l.classes

@@ -1,8 +1,0 @@
-use Rattle.std.proofs.Common.{◌≡◌, drop}
-use Rattle.std.specs.List.{list_all}
-use Rattle.wf_base.specs.declared.class_info.MethodInfo.{MethodInfo}
-use Rattle.world.specs.Calls.{code_calls_known, class_calls_known}
-use Rattle.world.proofs.calls.class_calls_known.Given as goal
-
-abbrev pub invariant-loop-method : goal.invariant-loop-method
-invariant-loop-method l = list_all (λ (m : MethodInfo). code_calls_known l.statics l.class.pool m.code) (drop l.method-index l.method-items) ≡ class_calls_known l.statics l.class

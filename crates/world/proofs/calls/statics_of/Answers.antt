@@ -1,9 +1,0 @@
-use Rattle.std.proofs.Common.{refl}
-use Rattle.wf_base.specs.declared.class_info.ClassInfo.{ClassInfo}
-use Rattle.world.specs.Calls.{statics_in, statics_of}
-use Rattle.world.proofs.StaticLaws.{gathered_next}
-use Rattle.world.proofs.calls.statics_of.Goals as goal
-
-pub loop-class-preserved : goal.loop-class-preserved
-loop-class-preserved c = gathered_next (λ (class : ClassInfo). statics_in class class.methods) statics_of (λ class classes. refl)
-    _ c.loop-class.class-index c.class-item.result _ _ _ c.loop-class-test.true c.class-item.is c.in_ok-add_statics.ensures c.loop-class.invariant

@@ -1,7 +1,0 @@
-use Rattle.std.proofs.Common.{◌≡◌, drop}
-use Rattle.std.specs.List.{list_all}
-use Rattle.world.specs.FirstForm.{is_method_of_form}
-use Rattle.world.proofs.form.are_methods_of_form.Given as goal
-
-abbrev pub invariant-loop-method : goal.invariant-loop-method
-invariant-loop-method l = list_all (is_method_of_form l.pool) (drop l.method-index l.methods) ≡ list_all (is_method_of_form l.pool) l.methods

@@ -1,6 +1,0 @@
-use Rattle.std.proofs.Common.{◌≡◌, drop}
-use Rattle.world.specs.Nodes.{with_nodes, shared_nodes}
-use Rattle.world.proofs.nodes.add_shared.Given as goal
-
-abbrev pub invariant-loop-class : goal.invariant-loop-class
-invariant-loop-class l = with_nodes l.nodes (shared_nodes (drop l.class-index l.classes)) ≡ with_nodes l.initial.nodes (shared_nodes l.classes)

@@ -1,7 +1,0 @@
-use Rattle.std.proofs.Common.{◌≡◌, ◌++◌, drop}
-use Rattle.world.specs.Nodes.{place_of}
-use Rattle.world.specs.Rows.{method_rows}
-use Rattle.world.proofs.rows.push_methods.Given as goal
-
-abbrev pub invariant-loop-method : goal.invariant-loop-method
-invariant-loop-method l = l.rows.items ++ method_rows (place_of l.nodes) l.class (drop l.method-index l.method-items) ≡ l.fn.rows.items ++ method_rows (place_of l.nodes) l.class l.class.methods
