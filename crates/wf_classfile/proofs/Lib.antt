@@ -1,2 +1,4 @@
 pub mod Lists
 pub mod WriteLoops
+pub mod MemberLaws
+pub mod NumberLaws

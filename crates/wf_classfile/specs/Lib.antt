@@ -1,1 +1,6 @@
 pub mod Writers
+pub mod Answers
+pub mod InOrder
+pub mod Met
+pub mod Numbers
+pub mod Places

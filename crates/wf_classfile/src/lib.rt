@@ -5,8 +5,12 @@
 mod constants;
 mod fault;
 mod keys;
+mod known;
+mod members;
+mod pairs;
 mod read;
 mod reader;
+mod texts;
 mod write;
 mod writer;
 

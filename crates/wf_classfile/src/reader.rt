@@ -8,7 +8,6 @@ mod fields;
 mod methods;
 
 pub use class::{MAGIC, class_of, is_known_version, may_be_root, may_extend};
-pub use methods::parameter_slots;
 use std::alloc::Global;
 use wf_base::{Cursor, PoolEntry, Why};
 use wf_constpool::{self, ClassFault, text_at};

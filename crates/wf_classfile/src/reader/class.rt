@@ -8,12 +8,12 @@ ghost use Rattle.wf_base.specs.Reading.{many, super_class, class_named, class_be
 ghost use Rattle.wf_constpool.specs.Readers.{Gives, GivesAs, GivesValue};
 
 use super::{Reader, bad};
-use crate::keys::Keys;
+use crate::members::Members;
 use std::alloc::Global;
 use wf_base::{
     ClassInfo, Cursor, Items, PoolEntry, Text, Why, is_class_name, is_interface, is_object_name,
 };
-use wf_constpool::{ClassFault, class_at, read_pool};
+use wf_constpool::{ClassFault, read_pool};
 
 pub const MAGIC: u32 = 0xCAFEBABE;
 
@@ -21,11 +21,12 @@ impl<'a> Reader<'a> {
     #[tactic(auto, unfolding(wf_base::specs::Reading::super_class))]
     fn super_class(
         &mut self,
-        pool: &[PoolEntry],
+        members: &mut Members<'_>,
         flags: u16,
         name: &[u8],
     ) -> Result<Option<Text>, ClassFault>
-        ensures { Gives self.new.cursor result (super_class pool.now flags name.now self.old.cursor) }
+        ensures reads { Gives self.new.cursor result (super_class members.old.pool flags name.now self.old.cursor) }
+        ensures same { members.new ≡ members.old }
     {
         let at = self.at();
         let place = self.u2()?;
@@ -35,30 +36,31 @@ impl<'a> Reader<'a> {
             }
             return Ok(None);
         }
-        let superclass = class_at(pool, place).ok_or(bad(at, Why::Index))?;
-        if !may_extend(flags, name, superclass) {
+        let superclass = members.class_name(place)?.ok_or(bad(at, Why::Index))?;
+        if !may_extend(flags, name, superclass.as_slice()) {
             return Err(bad(at, Why::Super));
         }
-        Ok(Some(Text::from_slice(self.alloc, superclass)?))
+        Ok(Some(superclass))
     }
 
     #[tactic(auto, unfolding(wf_base::specs::Reading::class_named))]
-    fn class_named(&mut self, pool: &[PoolEntry]) -> Result<Text, ClassFault>
-        ensures { Gives self.new.cursor result (class_named pool.now self.old.cursor) }
+    fn class_named(&mut self, members: &mut Members<'_>) -> Result<Text, ClassFault>
+        ensures reads { Gives self.new.cursor result (class_named members.old.pool self.old.cursor) }
+        ensures same { members.new ≡ members.old }
     {
         let at = self.at();
         let place = self.u2()?;
-        let name = class_at(pool, place).ok_or(bad(at, Why::Index))?;
-        Ok(Text::from_slice(self.alloc, name)?)
+        members.class_name(place)?.ok_or(bad(at, Why::Index))
     }
 
     #[tactic(auto, using(wf_base::proofs::Loops::goes_on, wf_constpool::proofs::Loops::ends, wf_base::proofs::Loops::is_done))]
-    fn interfaces(&mut self, pool: &[PoolEntry], count: u16) -> Result<Vec<Text>, ClassFault>
-        ensures { GivesAs (λ interfaces. interfaces.items) self.new.cursor result (many (class_named pool.now) count self.old.cursor) }
+    fn interfaces(&mut self, members: &mut Members<'_>, count: u16) -> Result<Vec<Text>, ClassFault>
+        ensures reads { GivesAs (λ interfaces. interfaces.items) self.new.cursor result (many (class_named members.old.pool) count self.old.cursor) }
+        ensures same { members.new ≡ members.old }
     {
         let mut interfaces = Vec::new(self.alloc);
         for _ in 0..count {
-            interfaces.push(self.class_named(pool)?)?;
+            interfaces.push(self.class_named(members)?)?;
         }
         Ok(interfaces)
     }
@@ -70,22 +72,21 @@ impl<'a> Reader<'a> {
     {
         let flags = self.u2()?;
         let at = self.at();
-        let name = self.class_named(pool.as_slice())?;
+        let mut members = Members::new(self.alloc, pool.as_slice());
+        let name = self.class_named(&mut members)?;
         if !is_class_name(name.as_slice()) {
             return Err(bad(at, Why::Name));
         }
-        let superclass = self.super_class(pool.as_slice(), flags, name.as_slice())?;
+        let superclass = self.super_class(&mut members, flags, name.as_slice())?;
         let count = self.u2()?;
-        let interfaces = self.interfaces(pool.as_slice(), count)?;
+        let interfaces = self.interfaces(&mut members, count)?;
         let count = self.u2()?;
-        let mut met = Keys::new(self.alloc);
-        let fields = self.fields(pool.as_slice(), &mut met, count)?;
-        drop(met);
+        let fields = self.fields(&mut members, count)?;
+        members.forget();
         let count = self.u2()?;
-        let mut met = Keys::new(self.alloc);
-        let methods = self.methods(pool.as_slice(), &mut met, count)?;
-        // The keys borrow from the pool, which moves into the class.
-        drop(met);
+        let methods = self.methods(&mut members, count)?;
+        // What is known borrows from the pool, which moves into the class.
+        drop(members);
         let count = self.u2()?;
         self.skip_attributes(pool.as_slice(), count)?;
         Ok(ClassInfo {

@@ -6,8 +6,8 @@ ghost use Rattle.wf_constpool.specs.Readers.{Gives, GivesAs};
 
 use super::{Reader, bad};
 use crate::constants::has_constant_of;
-use crate::keys::Keys;
-use wf_base::{FieldInfo, PoolEntry, Text, Why, is_field_descriptor, is_field_name, is_static};
+use crate::members::Members;
+use wf_base::{FieldInfo, PoolEntry, Why, is_static};
 use wf_constpool::{ClassFault, text_at};
 
 impl<'a> Reader<'a> {
@@ -86,51 +86,54 @@ impl<'a> Reader<'a> {
     }
 
     #[tactic(auto, unfolding(wf_base::specs::Reading::field, wf_base::specs::Reading::counted_on))]
-    fn field<'p>(
+    fn field(
         &mut self,
-        pool: &'p [PoolEntry],
-        met: &mut Keys<'p>,
+        pool: &[PoolEntry],
+        members: &mut Members<'_>,
     ) -> Result<FieldInfo, ClassFault>
-        ensures { GivesAs (λ field. (field, met.new)) self.new.cursor result (field pool.now met.old self.old.cursor) }
+        requires { members.old.pool ≡ pool.now }
+        ensures reads { GivesAs (λ field. (field, members.new.met)) self.new.cursor result (field pool.now members.old.met self.old.cursor) }
+        ensures pool { members.new.pool ≡ pool.now }
     {
         let flags = self.u2()?;
         let at = self.at();
-        let place = self.u2()?;
-        let name = text_at(pool, place).ok_or(bad(at, Why::Index))?;
-        if !is_field_name(name) {
+        let name_place = self.u2()?;
+        let name = members.text(name_place)?.ok_or(bad(at, Why::Index))?;
+        if !name.is_field_name() {
             return Err(bad(at, Why::Name));
         }
         let at = self.at();
-        let place = self.u2()?;
-        let desc = text_at(pool, place).ok_or(bad(at, Why::Index))?;
-        if !is_field_descriptor(desc) {
+        let desc_place = self.u2()?;
+        let desc = members.text(desc_place)?.ok_or(bad(at, Why::Index))?;
+        if !desc.is_field_descriptor() {
             return Err(bad(at, Why::Descriptor));
         }
-        if !met.insert(name, desc)? {
+        if !members.insert(name_place, desc_place)? {
             return Err(bad(at, Why::Twice));
         }
         let count = self.u2()?;
-        let constant = self.field_attributes(pool, is_static(flags), desc, count)?;
+        let constant = self.field_attributes(pool, is_static(flags), desc.as_slice(), count)?;
         Ok(FieldInfo {
-            name: Text::from_slice(self.alloc, name)?,
-            desc: Text::from_slice(self.alloc, desc)?,
+            name: name.into_text(),
+            desc: desc.into_text(),
             flags,
             constant,
         })
     }
 
     #[tactic(auto, using(wf_base::proofs::Loops::goes_on_on, wf_constpool::proofs::Loops::ends_on, wf_base::proofs::Loops::is_done_on))]
-    pub fn fields<'p>(
+    pub fn fields(
         &mut self,
-        pool: &'p [PoolEntry],
-        met: &mut Keys<'p>,
+        members: &mut Members<'_>,
         count: u16,
     ) -> Result<Vec<FieldInfo>, ClassFault>
-        ensures { GivesAs (λ fields. (fields.items, met.new)) self.new.cursor result (many_on (field pool.now) count met.old self.old.cursor) }
+        ensures reads { GivesAs (λ fields. (fields.items, members.new.met)) self.new.cursor result (many_on (field members.old.pool) count members.old.met self.old.cursor) }
+        ensures pool { members.new.pool ≡ members.old.pool }
     {
         let mut fields = Vec::new(self.alloc);
+        let pool = members.pool();
         for _ in 0..count {
-            fields.push(self.field(pool, met)?)?;
+            fields.push(self.field(pool, members)?)?;
         }
         Ok(fields)
     }

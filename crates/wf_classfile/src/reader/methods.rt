@@ -2,17 +2,14 @@
 
 ghost use Rattle.std.specs.Prelude.{◌≡◌, not, ◌&&◌, ◌==◌, nat_lt, IfOk};
 ghost use Rattle.std.specs.List.{filter_map};
-ghost use Rattle.wf_base.specs.ClassFile.{only_code, parameter_slots};
+ghost use Rattle.wf_base.specs.ClassFile.{only_code};
 ghost use Rattle.wf_base.specs.Reading.{many, many_on, whole, handler, code, method_attribute_as, method_attribute, method};
 ghost use Rattle.wf_constpool.specs.Readers.{Gives, GivesAs, GivesValue};
 
 use super::{Reader, bad};
-use crate::keys::Keys;
+use crate::members::Members;
 use std::alloc::{AllocError, Global};
-use wf_base::{
-    CodeInfo, Handler, Items, MethodInfo, PoolEntry, Text, Why, is_method_descriptor,
-    is_method_name, is_native_or_abstract, is_static,
-};
+use wf_base::{CodeInfo, Handler, Items, MethodInfo, PoolEntry, Text, Why, is_native_or_abstract};
 use wf_constpool::{ClassFault, text_at};
 
 impl<'a> Reader<'a> {
@@ -125,28 +122,30 @@ impl<'a> Reader<'a> {
     }
 
     #[tactic(auto, unfolding(wf_base::specs::Reading::method, wf_base::specs::Reading::counted))]
-    fn method<'p>(
+    fn method(
         &mut self,
-        pool: &'p [PoolEntry],
-        met: &mut Keys<'p>,
+        pool: &[PoolEntry],
+        members: &mut Members<'_>,
     ) -> Result<MethodInfo, ClassFault>
-        ensures { GivesAs (λ method. (method, met.new)) self.new.cursor result (method pool.now met.old self.old.cursor) }
+        requires { members.old.pool ≡ pool.now }
+        ensures reads { GivesAs (λ method. (method, members.new.met)) self.new.cursor result (method pool.now members.old.met self.old.cursor) }
+        ensures pool { members.new.pool ≡ pool.now }
     {
         let start = self.at();
         let flags = self.u2()?;
         let at = self.at();
-        let place = self.u2()?;
-        let name = text_at(pool, place).ok_or(bad(at, Why::Index))?;
-        if !is_method_name(name) {
+        let name_place = self.u2()?;
+        let name = members.text(name_place)?.ok_or(bad(at, Why::Index))?;
+        if !name.is_method_name() {
             return Err(bad(at, Why::Name));
         }
         let at = self.at();
-        let place = self.u2()?;
-        let desc = text_at(pool, place).ok_or(bad(at, Why::Index))?;
-        if !is_method_descriptor(desc, parameter_slots(flags)) {
+        let desc_place = self.u2()?;
+        let desc = members.text(desc_place)?.ok_or(bad(at, Why::Index))?;
+        if !desc.is_method_descriptor(flags) {
             return Err(bad(at, Why::Descriptor));
         }
-        if !met.insert(name, desc)? {
+        if !members.insert(name_place, desc_place)? {
             return Err(bad(at, Why::Twice));
         }
         let count = self.u2()?;
@@ -154,36 +153,29 @@ impl<'a> Reader<'a> {
         let codes = codes_of(self.alloc, attributes)?;
         let code = only_code(is_native_or_abstract(flags), codes).ok_or(bad(start, Why::Code))?;
         Ok(MethodInfo {
-            name: Text::from_slice(self.alloc, name)?,
-            desc: Text::from_slice(self.alloc, desc)?,
+            name: name.into_text(),
+            desc: desc.into_text(),
             flags,
             code,
         })
     }
 
     #[tactic(auto, using(wf_base::proofs::Loops::goes_on_on, wf_constpool::proofs::Loops::ends_on, wf_base::proofs::Loops::is_done_on))]
-    pub fn methods<'p>(
+    pub fn methods(
         &mut self,
-        pool: &'p [PoolEntry],
-        met: &mut Keys<'p>,
+        members: &mut Members<'_>,
         count: u16,
     ) -> Result<Vec<MethodInfo>, ClassFault>
-        ensures { GivesAs (λ methods. (methods.items, met.new)) self.new.cursor result (many_on (method pool.now) count met.old self.old.cursor) }
+        ensures reads { GivesAs (λ methods. (methods.items, members.new.met)) self.new.cursor result (many_on (method members.old.pool) count members.old.met self.old.cursor) }
+        ensures pool { members.new.pool ≡ members.old.pool }
     {
         let mut methods = Vec::new(self.alloc);
+        let pool = members.pool();
         for _ in 0..count {
-            methods.push(self.method(pool, met)?)?;
+            methods.push(self.method(pool, members)?)?;
         }
         Ok(methods)
     }
-}
-
-/// How many slots the parameters of a method with these flags may take: 255, and the object of an instance
-/// method takes one (JVMS 4.3.3).
-pub fn parameter_slots(flags: u16) -> u8
-    ensures { result ≡ parameter_slots flags }
-{
-    if is_static(flags) { 255 } else { 254 }
 }
 
 /// The codes among the attributes.

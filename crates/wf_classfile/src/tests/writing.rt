@@ -1,8 +1,24 @@
-use super::{BASE, KEPT, OBJECT};
+use super::{BASE, KEPT, OBJECT, changed, not_looked_at};
 use crate::{SpellFault, write_class, written_and_read};
 use std::alloc::{AllocError, Global};
 use std::test::Fail;
-use wf_base::{ClassInfo, CodeInfo, FieldInfo, MethodInfo, PoolEntry, Text};
+use wf_base::{ClassInfo, CodeInfo, FieldInfo, Items, MethodInfo, PoolEntry, Text};
+
+/// KEPT without its StackMapTable and without the constant of the instance field: what its class is written as.
+/// `javap -v` reads it.
+const WRITTEN: &[u8] = b"\
+    \xca\xfe\xba\xbe\0\0\04\0%\x0a\0\x02\0\x03\x07\0\x04\x0c\0\x05\0\x06\x01\0\x10java/lang/Object\
+    \x01\0\x06<init>\x01\0\x03()V\x09\0\x08\0\x09\x07\0\x0a\x0c\0\x0b\0\x0c\x01\0\x06p/Kept\x01\0\
+    \x04inst\x01\0\x01I\x07\0\x0e\x01\0\x1djava/lang/ArithmeticException\x07\0\x10\x01\0\x12java/l\
+    ang/Runnable\x01\0\x0dConstantValue\x03\xff\xff\xff\xf9\x01\0\x01L\x01\0\x01J\x05\0\0\0\x01*\
+    \x05\xf2\0\x01\0\x01S\x01\0\x12Ljava/lang/String;\x08\0\x1a\x01\0\x04text\x01\0\x01D\x06@\x04\
+    \0\0\0\0\0\0\x03\0\0\0\x03\x01\0\x04Code\x01\0\x01f\x01\0\x17(J[Ljava/lang/String;)I\x01\0\x0d\
+    StackMapTable\x01\0\x01g\x01\0\x01n\x04 \0\x08\0\x02\0\x01\0\x0f\0\x05\0\x18\0\x0c\0\x0c\0\x01\
+    \0\x11\0\0\0\x02\0\x12\0\x18\0\x13\0\x14\0\x01\0\x11\0\0\0\x02\0\x15\0\x18\0\x17\0\x18\0\x01\0\
+    \x11\0\0\0\x02\0\x19\0\x18\0\x1b\0\x1b\0\x01\0\x11\0\0\0\x02\0\x1c\0\x10\0\x0b\0\x0c\0\0\0\x04\
+    \0\0\0\x05\0\x06\0\x01\0\x1f\0\0\0\x16\0\x02\0\x01\0\0\0\x0a*\xb7\0\x01*\x06\xb5\0\x07\xb1\0\0\
+    \0\0\0\x08\0 \0!\0\x01\0\x1f\0\0\0\x1d\0\x03\0\x04\0\0\0\x09,\xbe\x1e\x88l\xacN\x04\xac\0\x01\
+    \0\0\0\x05\0\x06\0\x0d\0\0\x04\0\0#\0\x06\0\0\x01\0\0$\0\x06\0\0\0\0";
 
 fn same_entry(a: &PoolEntry, b: &PoolEntry) -> bool {
     match (a, b) {
@@ -97,6 +113,27 @@ fn the_smallest_class_is_its_file(rt: HostRuntime) -> Result<(), Fail> {
 }
 
 #[test]
+fn what_is_dropped_of_a_file_of_javac(rt: HostRuntime) -> Result<(), Fail> {
+    assert_eq!(rt; WRITTEN.len(), 484);
+    let class = super::read(&rt, KEPT)?;
+    let text = write_class(rt.alloc(), &class)?;
+    assert_eq!(rt; text.as_slice(), WRITTEN);
+    Ok(())
+}
+
+#[test]
+fn classes_of_changed_files_are_written(rt: HostRuntime) -> Result<(), Fail> {
+    for (label, change) in not_looked_at() {
+        let bytes = changed(rt.alloc(), BASE, change)?;
+        let class = super::read(&rt, &bytes)?;
+        let text = write_class(rt.alloc(), &class)?;
+        let again = super::read(&rt, text.as_slice())?;
+        assert!(rt; same_class(&class, &again), "{label}");
+    }
+    Ok(())
+}
+
+#[test]
 fn what_is_written_is_read_again(rt: HostRuntime) -> Result<(), Fail> {
     let files: [(&[u8], usize); 3] = [(OBJECT, 46), (BASE, 188), (KEPT, 484)];
     for (file, size) in files {
@@ -120,6 +157,8 @@ enum Change {
     ClassName,
     NoSuperclass,
     Major,
+    MostInterfaces,
+    TooManyInterfaces,
     FieldName,
     TwoFieldsAlike,
     ConstantOfALong,
@@ -135,6 +174,16 @@ fn text_of(alloc: Global, byte: u8, size: usize) -> Result<Text, AllocError> {
     let mut bytes = Vec::new(alloc);
     bytes.resize(size, byte)?;
     Ok(Text::from_vec(bytes))
+}
+
+/// So many interfaces of one name, which stands at place 3 of the pool.
+fn interfaces_of(alloc: Global, count: usize) -> Result<Items<Text>, AllocError> {
+    let name = Text::shared(alloc, b"java/lang/Object")?;
+    let mut interfaces = Vec::new(alloc);
+    for _ in 0..count {
+        interfaces.push(name.clone()?)?;
+    }
+    Ok(Items::from_vec(interfaces))
 }
 
 fn change_field(alloc: Global, field: &mut FieldInfo, change: Change) -> Result<(), AllocError> {
@@ -175,6 +224,8 @@ fn change_class(alloc: Global, class: &mut ClassInfo, change: Change) -> Result<
         Change::ClassName => class.name = Text::from_slice(alloc, b"f")?,
         Change::NoSuperclass => class.superclass = None,
         Change::Major => class.major = 53,
+        Change::MostInterfaces => class.interfaces = interfaces_of(alloc, 65535)?,
+        Change::TooManyInterfaces => class.interfaces = interfaces_of(alloc, 65536)?,
         _ => {}
     }
     if let Some(field) = class.fields.as_mut_slice().get_mut(0) {
@@ -200,6 +251,8 @@ fn classes_that_nothing_spells(rt: HostRuntime) -> Result<(), Fail> {
         (Change::ClassName, true),
         (Change::NoSuperclass, true),
         (Change::Major, true),
+        (Change::MostInterfaces, false),
+        (Change::TooManyInterfaces, true),
         (Change::FieldName, true),
         (Change::TwoFieldsAlike, true),
         (Change::ConstantOfALong, true),

@@ -11,7 +11,6 @@ use super::places::put_text_place;
 use crate::constants::has_constant_of;
 use crate::fault::SpellFault;
 use crate::keys::Keys;
-use crate::reader::parameter_slots;
 use wf_base::{
     CodeInfo, FieldInfo, Handler, MethodInfo, PoolEntry, is_field_descriptor, is_field_name,
     is_method_descriptor, is_method_name, is_native_or_abstract, is_static,
@@ -195,6 +194,14 @@ fn put_method_attributes(
         Some(code) if !is_native_or_abstract(method.flags) => put_code_attribute(out, pool, code),
         _ => Err(SpellFault::NotSpellable),
     }
+}
+
+/// How many slots the parameters of a method with these flags may take: 255, and the object of an instance
+/// method takes one (JVMS 4.3.3).
+fn parameter_slots(flags: u16) -> u8
+    ensures { result ≡ parameter_slots flags }
+{
+    if is_static(flags) { 255 } else { 254 }
 }
 
 #[tactic(auto, unfolding(wf_base::specs::Writing::put_method))]

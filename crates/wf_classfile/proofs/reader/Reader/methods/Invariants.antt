@@ -4,4 +4,7 @@ use Rattle.wf_base.proofs.Loops.{with_front_on}
 use Rattle.wf_classfile.proofs.reader.Reader.methods.Given as goal
 
 abbrev pub invariant-loop : goal.invariant-loop
-invariant-loop l = with_front_on l.methods.items (many_on (method l.pool) (l.count - l.counter) l.met l.self.cursor) ≡ many_on (method l.pool) l.count l.fn.met l.fn.self.cursor
+invariant-loop l = record {
+  so_far : with_front_on l.methods.items (many_on (method l.pool) (l.count - l.counter) l.members.met l.self.cursor) ≡ many_on (method l.pool) l.count l.fn.members.met l.fn.self.cursor;
+  pool : l.members.pool ≡ l.pool;
+}
