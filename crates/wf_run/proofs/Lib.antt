@@ -2,3 +2,4 @@ pub mod EachLaws
 pub mod FaultLaws
 mod WalkLaws
 pub mod MadeLaws
+pub mod StopLaws

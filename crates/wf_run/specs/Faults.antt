@@ -76,6 +76,11 @@ ListsAtMost most xs (Ok found) = (found ≡ xs) × (length xs ≤ most)
 ListsAtMost most xs (Err Unbuilt) = most < length xs
 ListsAtMost most xs (Err fault) = is_refusal fault ≡ false
 
+-- Where it is answered or refused, no call failed: the last failed call is as before.
+abbrev pub KeepsFailed : {X : Type 0} → Result X RunFault → Option Call → Option Call → Type 0
+KeepsFailed (Ok x) old new = new ≡ old
+KeepsFailed (Err fault) old new = is_refusal fault ≡ true → new ≡ old
+
 -- the fault is of no object that was handed in
 abbrev pub IsOwn : RunFault → Type 0
 IsOwn (ReadFault path) = ⊥

@@ -1,3 +1,4 @@
 pub mod Faults
 pub mod Walk
 pub mod Made
+pub mod Stops

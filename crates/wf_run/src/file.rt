@@ -2,7 +2,7 @@ ghost use Rattle.std.specs.Prelude.{◌≡◌, ◌≤◌, List, [], ◌∷◌, S
 ghost use Rattle.wf_io.specs.declared.tree.MemFile.{MemFile};
 ghost use Rattle.wf_io.specs.declared.tree.Call.TheVariants as call;
 ghost use Rattle.wf_io.specs.Tree.{content};
-ghost use Rattle.wf_run.specs.Faults.{IsOfTree, ReadsFile};
+ghost use Rattle.wf_run.specs.Faults.{IsOfTree, KeepsFailed, ReadsFile};
 ghost use Rattle.wf_run.specs.Made.{IsOfCalls};
 
 use crate::fault::{RunFault, read_fault};
@@ -18,6 +18,7 @@ pub fn read_bytes<T: Tree>(alloc: Global, tree: &mut T, path: &Text) -> Result<T
     ensures same { T.told tree.new ≡ T.told tree.old }
     ensures grows { T.count tree.old ≤ T.count tree.new }
     ensures fault { IfErr result (IsOfTree (T.count tree.old) (T.count tree.new) (T.last_failed tree.new)) }
+    ensures kept { KeepsFailed result (T.last_failed tree.old) (T.last_failed tree.new) }
     ensures made { IfErr result (IsOfCalls (call.Read path.now ∷ []) (T.last_failed tree.new)) }
 {
     match tree.read(alloc, path, MAX_FILE_BYTES) {

@@ -1,7 +1,7 @@
 ghost use Rattle.std.specs.Prelude.{◌≡◌, ◌+◌, ◌-◌, ◌<◌, ◌≤◌, List, [], ◌∷◌, Some, true, false, length, IfOk, IfErr};
 ghost use Rattle.wf_io.specs.declared.tree.MemFile.{MemFile};
 ghost use Rattle.wf_io.specs.Tree.{listing};
-ghost use Rattle.wf_run.specs.Faults.{IsOfTree, IsOwn, Gives, ListsAtMost, Reads};
+ghost use Rattle.wf_run.specs.Faults.{IsOfTree, KeepsFailed, IsOwn, Gives, ListsAtMost, Reads};
 ghost use Rattle.wf_io.specs.declared.tree.Call.TheVariants as call;
 ghost use Rattle.wf_run.specs.Made.{IsOfCalls, visit_calls, walk_calls};
 ghost use Rattle.wf_run.specs.Walk.{path_in, is_noted, note, visit, walk, at_start, noted_from};
@@ -50,6 +50,7 @@ fn entries_in<T: Tree>(
     ensures same { T.told tree.new ≡ T.told tree.old }
     ensures grows { T.count tree.old ≤ T.count tree.new }
     ensures fault { IfErr result (IsOfTree (T.count tree.old) (T.count tree.new) (T.last_failed tree.new)) }
+    ensures kept { KeepsFailed result (T.last_failed tree.old) (T.last_failed tree.new) }
     ensures made { IfErr result (IsOfCalls (call.List dir.now ∷ []) (T.last_failed tree.new)) }
 {
     match tree.list(alloc, dir, most) {
@@ -93,6 +94,7 @@ fn visit<T: Tree>(
     ensures same { T.told tree.new ≡ T.told tree.old }
     ensures grows { T.count tree.old ≤ T.count tree.new }
     ensures fault { IfErr result (IsOfTree (T.count tree.old) (T.count tree.new) (T.last_failed tree.new)) }
+    ensures kept { KeepsFailed result (T.last_failed tree.old) (T.last_failed tree.new) }
     ensures made { (files : List MemFile) → T.told tree.old ≡ Some files →
         IfErr result (IsOfCalls (visit_calls top (walk_calls files depth false) dir.now entry.now walked.old) (T.last_failed tree.new)) }
 {
@@ -127,6 +129,7 @@ fn walk<T: Tree>(
     ensures same { T.told tree.new ≡ T.told tree.old }
     ensures grows { T.count tree.old ≤ T.count tree.new }
     ensures fault { IfErr result (IsOfTree (T.count tree.old) (T.count tree.new) (T.last_failed tree.new)) }
+    ensures kept { KeepsFailed result (T.last_failed tree.old) (T.last_failed tree.new) }
     ensures made { (files : List MemFile) → T.told tree.old ≡ Some files →
         IfErr result (IsOfCalls (walk_calls files depth top dir.now walked.old) (T.last_failed tree.new)) }
 {
@@ -151,6 +154,7 @@ pub fn walk_from<T: Tree>(alloc: Global, tree: &mut T, dir: &Text) -> Result<Ite
     ensures same { T.told tree.new ≡ T.told tree.old }
     ensures grows { T.count tree.old ≤ T.count tree.new }
     ensures fault { IfErr result (IsOfTree (T.count tree.old) (T.count tree.new) (T.last_failed tree.new)) }
+    ensures kept { KeepsFailed result (T.last_failed tree.old) (T.last_failed tree.new) }
     ensures made { (files : List MemFile) → T.told tree.old ≡ Some files →
         IfErr result (IsOfCalls (walk_calls files (MAX_DEPTH + 1) true dir.now at_start) (T.last_failed tree.new)) }
 {

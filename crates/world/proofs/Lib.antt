@@ -2,3 +2,4 @@ mod OutcomeLaws
 mod OutputLaws
 mod WordLaws
 mod MadeLaws
+mod StopLaws

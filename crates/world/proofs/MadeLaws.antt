@@ -15,6 +15,7 @@ use Rattle.wf_run.proofs.MadeLaws.{IsWithin}
 use Rattle.world.specs.Command.{IsCommand}
 use Rattle.world.specs.Load.{classes_of}
 use Rattle.world.specs.Made.{classes_calls, roots_calls, noted_calls, calls_of, IsOfRun, IsCallOfRun}
+use Rattle.world.proofs.StopLaws.{run_stops}
 use Rattle.world.specs.Output.{IsStatusOf}
 
 -- ---- the whole run
@@ -52,7 +53,7 @@ own_of_run files words last NoMemory h = tt
 pub of_command : (files : List MemFile) (words : List (List ℕ)) (roots dir : List ℕ) (last : Option Call) (e : RunFault) → IsCommand words roots dir → IsOfCalls (calls_of files roots dir) last e → IsOfRun files words last e
 of_command files words roots dir last Unbuilt command h = tt
 of_command files words roots dir last (BadClass file offset why) command h = tt
-of_command files words roots dir last (ReadFault path) command h = record { roots = roots; dir = dir; command = command; of_run = h }
+of_command files words roots dir last (ReadFault path) command h = record { roots = roots; dir = dir; command = command; failed = h.failed; is = h.is; stops = run_stops files roots dir h.failed h.made }
 of_command files words roots dir last WriteFault command h = tt
 of_command files words roots dir last NoMemory command h = tt
 

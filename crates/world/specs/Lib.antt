@@ -4,3 +4,4 @@ pub mod Load
 pub mod Output
 pub mod Outcome
 pub mod Made
+pub mod Stops

@@ -1,5 +1,5 @@
 -- The calls of the tree that a run makes where none of them fails: in their order, up to the first refusal.
-use Rattle.std.specs.Prelude.{ℕ, ◌+◌, true, List, [], ◌∷◌, ◌++◌, Option, if◌then◌else◌}
+use Rattle.std.specs.Prelude.{◌≡◌, Some, ℕ, ◌+◌, true, List, [], ◌∷◌, ◌++◌, Option, if◌then◌else◌}
 use Rattle.wf_base.specs.declared.class_info.ClassInfo.{ClassInfo}
 use Rattle.wf_io.specs.declared.tree.Call.{Call}
 use Rattle.wf_io.specs.declared.tree.Call.TheVariants as call
@@ -9,9 +9,10 @@ use Rattle.wf_run.specs.declared.fault.RunFault.{RunFault}
 use Rattle.wf_run.specs.declared.fault.RunFault.TheVariants.{ReadFault}
 use Rattle.world.specs.declared.load.ReadSoFar.{ReadSoFar}
 use Rattle.world.specs.Command.{IsCommand}
-use Rattle.wf_run.specs.Made.{calls_behind, each_calls, walk_calls, IsLastOf}
+use Rattle.wf_run.specs.Made.{calls_behind, each_calls, walk_calls}
 use Rattle.wf_run.specs.Walk.{at_start, noted_from}
 use Rattle.wf_first.specs.Roots.{has_object}
+use Rattle.world.specs.Stops.{RunStops}
 use Rattle.world.specs.Load.{read_file, classes_of}
 
 -- the call of a noted file
@@ -34,12 +35,14 @@ noted_calls files roots dir paths = classes_calls files dir paths ++ calls_behin
 abbrev pub calls_of : List MemFile → List ℕ → List ℕ → List Call
 calls_of files roots dir = walk_calls files (MAX_DEPTH + 1) true dir at_start ++ calls_behind (noted_calls files roots dir) (noted_from files dir)
 
--- the tree's last failed call is one that the run makes for these words and files
+-- the tree's last failed call is one at which the run for these words and files stops
 pub record IsCallOfRun (files : List MemFile) (words : List (List ℕ)) (last : Option Call) : Type 0 where
   pub roots : List ℕ
   pub dir : List ℕ
   pub command : IsCommand words roots dir
-  pub of_run : IsLastOf (calls_of files roots dir) last
+  pub failed : Call
+  pub is : last ≡ Some failed
+  pub stops : RunStops files roots dir failed
 
 -- a read fault comes of such a call
 abbrev pub IsOfRun : List MemFile → List (List ℕ) → Option Call → RunFault → Type 0

@@ -1,7 +1,7 @@
 ghost use Rattle.std.specs.Prelude.{◌≡◌, ◌+◌, ◌≤◌, true, List, [], ◌∷◌, Some, length, IfOk, IfErr};
 ghost use Rattle.wf_io.specs.declared.tree.MemFile.{MemFile};
 ghost use Rattle.wf_io.specs.Tree.{content};
-ghost use Rattle.wf_run.specs.Faults.{IsOfTree, IsOwn, IsBadClass, Gives, Reads, ReadsFile};
+ghost use Rattle.wf_run.specs.Faults.{IsOfTree, KeepsFailed, IsOwn, IsBadClass, Gives, Reads, ReadsFile};
 ghost use Rattle.wf_first.specs.Form.{AllOfForm, IsOfForm};
 ghost use Rattle.wf_first.specs.Roots.{has_object, only_line, root_in};
 ghost use Rattle.world.specs.Load.{class_path, add_class, take_file, read_file, classes_of};
@@ -122,6 +122,7 @@ fn read_file<T: Tree>(
     ensures same { T.told tree.new ≡ T.told tree.old }
     ensures grows { T.count tree.old ≤ T.count tree.new }
     ensures fault { IfErr result (IsOfTree (T.count tree.old) (T.count tree.new) (T.last_failed tree.new)) }
+    ensures kept { KeepsFailed result (T.last_failed tree.old) (T.last_failed tree.new) }
     ensures made { IfErr result (IsOfCalls (file_calls path.now so_far.old) (T.last_failed tree.new)) }
 {
     let bytes = read_bytes(alloc, tree, path)?;
@@ -143,6 +144,7 @@ pub fn read_classes<T: Tree>(
     ensures same { T.told tree.new ≡ T.told tree.old }
     ensures grows { T.count tree.old ≤ T.count tree.new }
     ensures fault { IfErr result (IsOfTree (T.count tree.old) (T.count tree.new) (T.last_failed tree.new)) }
+    ensures kept { KeepsFailed result (T.last_failed tree.old) (T.last_failed tree.new) }
     ensures made { (files : List MemFile) → T.told tree.old ≡ Some files →
         IfErr result (IsOfCalls (classes_calls files dir.now paths.now) (T.last_failed tree.new)) }
 {
@@ -192,6 +194,7 @@ fn read_roots<T: Tree>(
     ensures same { T.told tree.new ≡ T.told tree.old }
     ensures grows { T.count tree.old ≤ T.count tree.new }
     ensures fault { IfErr result (IsOfTree (T.count tree.old) (T.count tree.new) (T.last_failed tree.new)) }
+    ensures kept { KeepsFailed result (T.last_failed tree.old) (T.last_failed tree.new) }
     ensures made { IfErr result (IsOfCalls (roots_calls roots.now classes) (T.last_failed tree.new)) }
 {
     let bytes = read_bytes(alloc, tree, roots)?;
@@ -209,6 +212,7 @@ pub fn load<T: Tree>(alloc: Global, tree: &mut T, command: &Command) -> Result<P
     ensures same { T.told tree.new ≡ T.told tree.old }
     ensures grows { T.count tree.old ≤ T.count tree.new }
     ensures fault { IfErr result (IsOfTree (T.count tree.old) (T.count tree.new) (T.last_failed tree.new)) }
+    ensures kept { KeepsFailed result (T.last_failed tree.old) (T.last_failed tree.new) }
     ensures made { (files : List MemFile) → T.told tree.old ≡ Some files →
         IfErr result (IsOfCalls (calls_of files command.now.roots command.now.dir) (T.last_failed tree.new)) }
 {

@@ -5,7 +5,7 @@ ghost use Rattle.wf_io.specs.declared.tree.MemFile.{MemFile};
 ghost use Rattle.wf_io.specs.declared.tree.Call.{Call};
 ghost use Rattle.wf_io.specs.Faults.{Rose};
 ghost use Rattle.world.specs.Command.{words_of};
-ghost use Rattle.wf_run.specs.Faults.{IsOfTree};
+ghost use Rattle.wf_run.specs.Faults.{IsOfTree, KeepsFailed};
 ghost use Rattle.world.specs.Made.{IsOfRun, IsCallOfRun};
 ghost use Rattle.world.specs.Outcome.{Analysed, Outcome, RefusesFor};
 ghost use Rattle.world.specs.Output.{IsCut, Got, TellsFault, TellsOrNoMemory, IsStatusOf, status_of, line_of};
@@ -31,6 +31,7 @@ fn analyse<T: Tree>(alloc: Global, words: &[Vec<u8>], tree: &mut T) -> Result<Te
     ensures same { T.told tree.new ≡ T.told tree.old }
     ensures grows { T.count tree.old ≤ T.count tree.new }
     ensures fault { IfErr result (IsOfTree (T.count tree.old) (T.count tree.new) (T.last_failed tree.new)) }
+    ensures kept { KeepsFailed result (T.last_failed tree.old) (T.last_failed tree.new) }
     ensures made { (files : List MemFile) → T.told tree.old ≡ Some files →
         IfErr result (IsOfRun files (words_of words.now) (T.last_failed tree.new)) }
 {
@@ -150,6 +151,7 @@ pub fn world_run<R: Threads + Sync, T: Tree, O: Sink, E: Sink>(
     ensures read_fault { result ≡ 6 → Rose (T.count tree.old) (T.count tree.new) }
     ensures failed_call { (files : List MemFile) → T.told tree.old ≡ Some files →
         result ≡ 6 → IsCallOfRun files (words_of words.now) (T.last_failed tree.new) }
+    ensures none_failed { result ≢ 6 → result ≢ 9 → T.last_failed tree.new ≡ T.last_failed tree.old }
     ensures write_fault { result ≡ 7 → Rose (O.count out.old) (O.count out.new) }
     ensures cut { (files : List MemFile) (had : List ℕ) → T.told tree.old ≡ Some files → O.taken out.old ≡ Some had →
         result ≡ 7 → PrintsPart files (words_of words.now) had (O.taken out.new) }

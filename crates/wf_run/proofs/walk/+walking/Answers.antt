@@ -40,6 +40,7 @@ walk-loop-entry-init g t c = record {
       rw (c.as_slice-entry-items.ensures, c.len.ensures)
       (calls_of_entries files c.args.depth c.args.top c.args.dir.now c.args.walked.now c.in_ok-entries.entries (omega arith) h.0 (omega (arith, ap length h.0, h.1, c.requires)));
   same = search rules;
+  kept = search rules;
   grows = search rules;
   small = omega (arith, c.in_ok-entries.ensures.within, c.requires);
 }
@@ -64,6 +65,7 @@ walk-loop-entry-preserved g t c = record {
       calls_go_on own step c.as_slice-entry-items.result.now c.loop-entry.entry-index c.entry-item.result c.loop-entry.walked c.visit.new.walked (walk_calls files c.args.depth c.args.top c.args.dir.now c.args.walked.now) c.loop-entry-test.true c.entry-item.is (c.loop-entry.invariant.made files told)
       (c.in_ok-visit.ensures.visited files (c.loop-entry.invariant.same ∙ told));
   same = c.in_ok-visit.ensures.same ∙ c.loop-entry.invariant.same;
+  kept = c.in_ok-visit.ensures.kept ∙ c.loop-entry.invariant.kept;
   grows = omega (arith, c.in_ok-visit.ensures.grows, c.loop-entry.invariant.grows);
   small = c.in_ok-visit.ensures.small;
 }

@@ -20,6 +20,7 @@ invariant-walk-loop-entry g l = record {
   made : (files : List MemFile) → g.T.Tree.told l.fn.tree ≡ Some files
       → IsWithin (each_calls (visit_calls l.top (walk_calls files (l.depth - 1) false) l.dir) (visit l.top (walk files (l.depth - 1) false) l.dir) (drop l.entry-index l.entry-items) l.walked) (walk_calls files l.depth l.top l.dir l.fn.walked);
   same : g.T.Tree.told l.tree ≡ g.T.Tree.told l.fn.tree;
+  kept : g.T.Tree.last_failed l.tree ≡ g.T.Tree.last_failed l.fn.tree;
   grows : g.T.Tree.count l.fn.tree ≤ g.T.Tree.count l.tree;
   small : l.walked.entries ≤ MAX_ENTRIES;
 }

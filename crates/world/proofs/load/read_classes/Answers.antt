@@ -21,6 +21,7 @@ loop-path-preserved g c = record {
       calls_go_on file_calls (read_file files c.args.dir.now) c.as_slice-path-items.result.now c.loop-path.path-index c.path-item.result c.loop-path.so_far c.read_file.new.so_far _ c.loop-path-test.true c.path-item.is (c.loop-path.invariant.made files told)
       (c.in_ok-read_file.ensures.read files (c.loop-path.invariant.same ∙ told));
   same = c.in_ok-read_file.ensures.same ∙ c.loop-path.invariant.same;
+  kept = c.in_ok-read_file.ensures.kept ∙ c.loop-path.invariant.kept;
   grows = omega (arith, c.in_ok-read_file.ensures.grows, c.loop-path.invariant.grows);
   small = c.in_ok-read_file.ensures.small;
   form = c.in_ok-read_file.ensures.form c.loop-path.invariant.form;

@@ -17,6 +17,7 @@ invariant-loop-path g l = record {
   made : (files : List MemFile) → g.T.Tree.told l.fn.tree ≡ Some files
       → IsWithin (each_calls file_calls (read_file files l.dir) (drop l.path-index l.path-items) l.so_far) (classes_calls files l.dir l.paths);
   same : g.T.Tree.told l.tree ≡ g.T.Tree.told l.fn.tree;
+  kept : g.T.Tree.last_failed l.tree ≡ g.T.Tree.last_failed l.fn.tree;
   grows : g.T.Tree.count l.fn.tree ≤ g.T.Tree.count l.tree;
   small : l.so_far.bytes ≤ MAX_BYTES;
   form : AllOfForm l.so_far.classes;
