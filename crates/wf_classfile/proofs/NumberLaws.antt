@@ -13,7 +13,7 @@ use Rattle.std.proofs.lemmas.Slice.Eq.{bytes_eq-Decides}
 use Rattle.wf_base.specs.declared.class_info.PoolEntry.{PoolEntry}
 use Rattle.wf_base.specs.ClassFile.{text_at}
 use Rattle.wf_classfile.specs.declared.texts.Seen.{Seen}
-use Rattle.wf_classfile.specs.Numbers.{number_in, Adds, Grows, Stand}
+use Rattle.wf_classfile.specs.Numbers.{number_in, Adds}
 use Rattle.wf_classfile.specs.Places.{IsSeen, AreSeen}
 
 kept_at : (b : Bool) (old new : Option ℕ) (place n : ℕ) → (b ≡ true → old ≡ None) → new ≡ cond b (Some place) old → old ≡ Some n → new ≡ Some n

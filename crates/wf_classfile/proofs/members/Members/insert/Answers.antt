@@ -1,4 +1,4 @@
-use Rattle.std.proofs.Common.{◌≡◌, ℕ, not, Some, List, refl, sym, ap, subst, ◌∙◌}
+use Rattle.std.proofs.Common.{◌≡◌, not, Some, List, refl, sym, ap, subst, ◌∙◌}
 use Rattle.wf_base.specs.declared.class_info.PoolEntry.{PoolEntry}
 use Rattle.wf_classfile.specs.Met.{AreNumbers}
 use Rattle.wf_classfile.specs.Numbers.{number_in, text_there, Stand}
