@@ -2,9 +2,11 @@
 
 mod bad;
 mod limits;
+mod listings;
 mod path;
 
 use crate::run::world_run;
+use listings::{OBJECT, class_bytes};
 use std::alloc::{AllocError, Global};
 use std::test::Fail;
 use std::thread::Threads;
@@ -16,22 +18,15 @@ use wf_io::{MemFile, SinkMem, TreeMem};
 enum Content {
     /// `java/lang/Object`, with its constructor.
     Object,
-    /// A class with this name below `java/lang/Object`, with `main ()V` and `other ()V`.
-    Class(&'static [u8]),
+    /// A class with this name, in the form of names, with `main ()V` and `other ()V`.
+    Class(&'static str),
     Bytes(&'static [u8]),
 }
 
 type File = (&'static str, Content);
 
-/// The name of a method, its flags and its max_locals; its code is one `return`.
-type Method = (&'static [u8], u8, u8);
-
-const TWO_METHODS: [Method; 2] = [(b"main", 0x09, 0), (b"other", 0x09, 0)];
-
-const CONSTRUCTOR: [Method; 1] = [(b"<init>", 0x01, 1)];
-
 const FIRST_ROW: [File; 3] = [
-    ("d/A.class", Content::Class(b"A")),
+    ("d/A.class", Content::Class("A")),
     ("d/java/lang/Object.class", Content::Object),
     ("r", Content::Bytes(b"static A.main ()V\n")),
 ];
@@ -40,54 +35,38 @@ const WORDS: [&str; 3] = ["--roots", "r", "d"];
 
 const REPORT: &[u8] = b"world 1\ntypes 0\nmethods 1\nA.main ()V\nfields 0\nunresolved 0\nend\n";
 
+/// A constant text as it stands in a pool (JVMS 4.4.7).
 fn push_text(out: &mut Vec<u8>, text: &[u8]) -> Result<(), AllocError> {
     out.extend_from_slice(&[1, 0])?;
     out.push((text.len() % 256) as u8)?;
     out.extend_from_slice(text)
 }
 
-/// The bytes of a class file whose methods have the descriptor `()V`. A superclass of no name is none.
-fn class_file(
-    alloc: Global,
-    name: &[u8],
-    superclass: &[u8],
-    methods: &[Method],
-) -> Result<Vec<u8>, AllocError> {
-    let mut out = Vec::new(alloc);
-    let count = (methods.len() % 100) as u8;
-    out.extend_from_slice(&[0xca, 0xfe, 0xba, 0xbe, 0, 0, 0, 52, 0, 7 + count, 7, 0, 2])?;
-    push_text(&mut out, name)?;
-    out.extend_from_slice(&[7, 0, 4])?;
-    push_text(&mut out, superclass)?;
-    push_text(&mut out, b"()V")?;
-    push_text(&mut out, b"Code")?;
-    for (name, _, _) in methods {
-        push_text(&mut out, name)?;
-    }
-    let superclass = if superclass.is_empty() { 0 } else { 3 };
-    out.extend_from_slice(&[0, 0x21, 0, 1, 0, superclass, 0, 0, 0, 0, 0, count])?;
-    for (i, (_, flags, max_locals)) in methods.iter().enumerate() {
-        let name = (7 + i % 100) as u8;
-        out.extend_from_slice(&[0, *flags, 0, name, 0, 5, 0, 1, 0, 6, 0, 0, 0, 13])?;
-        out.extend_from_slice(&[0, 0, 0, *max_locals, 0, 0, 0, 1, 0xb1, 0, 0, 0, 0])?;
-    }
-    out.extend_from_slice(&[0, 0])?;
-    Ok(out)
-}
-
-fn bytes_of(alloc: Global, content: &Content) -> Result<Vec<u8>, AllocError> {
+fn bytes_of(alloc: Global, content: &Content) -> Result<Text, Fail> {
     match content {
-        Content::Object => class_file(alloc, b"java/lang/Object", b"", &CONSTRUCTOR),
-        Content::Class(name) => class_file(alloc, name, b"java/lang/Object", &TWO_METHODS),
-        Content::Bytes(bytes) => bytes.to_vec(alloc),
+        Content::Object => class_bytes(alloc, OBJECT),
+        Content::Class(name) => {
+            let listing = format!(in alloc;
+                "class {name}
+                method static main ()V
+                  return
+                end
+                method static other ()V
+                  return
+                end
+            "
+            )?;
+            class_bytes(alloc, listing.as_str())
+        }
+        Content::Bytes(bytes) => Ok(Text::from_slice(alloc, bytes)?),
     }
 }
 
-fn tree(alloc: Global, files: &[File], failing: &[u64]) -> Result<TreeMem, AllocError> {
+fn tree(alloc: Global, files: &[File], failing: &[u64]) -> Result<TreeMem, Fail> {
     let mut made = Vec::new(alloc);
     for (path, content) in files {
         let path = Text::from_slice(alloc, path.as_bytes())?;
-        let bytes = Text::from_vec(bytes_of(alloc, content)?);
+        let bytes = bytes_of(alloc, content)?;
         made.push(MemFile { path, bytes })?;
     }
     let failing = Items::from_vec(failing.to_vec(alloc)?);
@@ -206,11 +185,11 @@ fn each_write_may_fail(rt: HostRuntime) -> Result<(), Fail> {
 fn walk_goes_in_order(rt: HostRuntime) -> Result<(), Fail> {
     let alloc = rt.alloc();
     let files = [
-        ("d/b/Z.class", Content::Class(b"b/Z")),
+        ("d/b/Z.class", Content::Class("b/Z")),
         ("d/META-INF/X.class", Content::Bytes(b"")),
-        ("d/b/META-INF/Y.class", Content::Class(b"b/META-INF/Y")),
-        ("d/a.class", Content::Class(b"a")),
-        ("d/a.class/C.class", Content::Class(b"a.class/C")),
+        ("d/b/META-INF/Y.class", Content::Class("b/META-INF/Y")),
+        ("d/a.class", Content::Class("a")),
+        ("d/a.class/C.class", Content::Bytes(b"")),
         ("d/module-info.class", Content::Bytes(b"")),
         ("d/notes.txt", Content::Bytes(b"")),
         ("d/java/lang/Object.class", Content::Object),
@@ -251,7 +230,7 @@ fn roots_of_the_form(rt: HostRuntime) -> Result<(), Fail> {
     ];
     for (i, line) in roots.into_iter().enumerate() {
         let files = [
-            ("d/A.class", Content::Class(b"A")),
+            ("d/A.class", Content::Class("A")),
             ("d/java/lang/Object.class", Content::Object),
             ("r", Content::Bytes(line)),
         ];
@@ -274,26 +253,26 @@ fn other_input_is_not_built(rt: HostRuntime) -> Result<(), Fail> {
     let alloc = rt.alloc();
     let cases: [[File; 3]; 11] = [
         // roots files
-        row("d/A.class", Content::Class(b"A"), b"static A.nope ()V\n"),
-        row("d/A.class", Content::Class(b"A"), b"static A.main ()V\n\n"),
+        row("d/A.class", Content::Class("A"), b"static A.nope ()V\n"),
+        row("d/A.class", Content::Class("A"), b"static A.main ()V\n\n"),
         row(
             "d/A.class",
-            Content::Class(b"A"),
+            Content::Class("A"),
             b"# x\nstatic A.main ()V\n",
         ),
-        row("d/A.class", Content::Class(b"A"), b"static A.main ()V\r"),
-        row("d/A.class", Content::Class(b"A"), b"static A.main ()V \n"),
-        row("d/A.class", Content::Class(b"A"), b"static  A.main ()V\n"),
-        row("d/A.class", Content::Class(b"A"), b"static A.m\\61in ()V\n"),
-        row("d/A.class", Content::Class(b"A"), b"inst A\n"),
+        row("d/A.class", Content::Class("A"), b"static A.main ()V\r"),
+        row("d/A.class", Content::Class("A"), b"static A.main ()V \n"),
+        row("d/A.class", Content::Class("A"), b"static  A.main ()V\n"),
+        row("d/A.class", Content::Class("A"), b"static A.m\\61in ()V\n"),
+        row("d/A.class", Content::Class("A"), b"inst A\n"),
         row(
             "d/A.class",
-            Content::Class(b"A"),
+            Content::Class("A"),
             b"static java/lang/Object.<init> ()V\n",
         ),
-        row("d/A.class", Content::Class(b"A"), b""),
+        row("d/A.class", Content::Class("A"), b""),
         // a class at another path
-        row("d/B.class", Content::Class(b"A"), b"static A.main ()V\n"),
+        row("d/B.class", Content::Class("A"), b"static A.main ()V\n"),
     ];
     for (i, files) in cases.iter().enumerate() {
         let ran = run(
@@ -321,7 +300,7 @@ fn row(path: &'static str, class: Content, roots: &'static [u8]) -> [File; 3] {
 #[test]
 fn no_object_is_not_built(rt: HostRuntime) -> Result<(), Fail> {
     let alloc = rt.alloc();
-    let files = [("d/A.class", Content::Class(b"A"))];
+    let files = [("d/A.class", Content::Class("A"))];
     let ran = run(
         &rt,
         &WORDS,
@@ -346,7 +325,7 @@ fn no_object_is_not_built(rt: HostRuntime) -> Result<(), Fail> {
 fn names_are_escaped(rt: HostRuntime) -> Result<(), Fail> {
     let alloc = rt.alloc();
     let files = [
-        ("d/a b\u{e9}.class", Content::Class(b"a b\xc3\xa9")),
+        ("d/a b\u{e9}.class", Content::Class("a\\20b\\c3\\a9")),
         ("d/java/lang/Object.class", Content::Object),
         ("r", Content::Bytes(b"static a\\20b\\c3\\a9.main ()V\n")),
     ];

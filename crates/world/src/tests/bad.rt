@@ -11,6 +11,10 @@ use wf_io::{MemFile, TreeMem};
 const OBJECT: &[u8] =
     b"\xca\xfe\xba\xbe\x00\x00\x00\x34\x00\x03\x07\x00\x02\x01\x00\x10java/lang/Object\x00\x21\x00\x01\x00\x00\x00\x00\x00\x00\x00\x00\x00\x00";
 
+/// A class `a//A` below `java/lang/Object`.
+const TWO_SLASHES: &[u8] =
+    b"\xca\xfe\xba\xbe\x00\x00\x004\x00\x05\x07\x00\x02\x01\x00\x04a//A\x07\x00\x04\x01\x00\x10java/lang/Object\x00!\x00\x01\x00\x03\x00\x00\x00\x00\x00\x00\x00\x00";
+
 /// What is changed of it.
 #[derive(Clone, Copy)]
 enum Change {
@@ -83,8 +87,8 @@ fn other_bad_files(rt: HostRuntime) -> Result<(), Fail> {
     let alloc = rt.alloc();
     let cases: [(File, &str); 2] = [
         (
-            ("d/a/A.class", Content::Class(b"a//A")),
-            "bad class file d/a/A.class at 72: name\n",
+            ("d/a/A.class", Content::Bytes(TWO_SLASHES)),
+            "bad class file d/a/A.class at 44: name\n",
         ),
         (
             ("d/A.class", Content::Bytes(b"\xca\xfe\xba\xbe")),
@@ -213,8 +217,9 @@ fn skipped_attributes_are_no_hindrance(rt: HostRuntime) -> Result<(), Fail> {
     let mut files = Vec::new(alloc);
     let class = class_with(alloc, Besides::SourceFile)?;
     files.push(mem_file(alloc, "d/A.class", class)?)?;
-    let object = super::bytes_of(alloc, &Content::Object)?;
-    files.push(mem_file(alloc, "d/java/lang/Object.class", object)?)?;
+    let path = Text::from_slice(alloc, b"d/java/lang/Object.class")?;
+    let bytes = super::bytes_of(alloc, &Content::Object)?;
+    files.push(MemFile { path, bytes })?;
     let ran = run_files(&rt, files)?;
     assert_eq!(rt; ran.status, 0);
     assert_eq!(rt; ran.out.bytes(), REPORT);

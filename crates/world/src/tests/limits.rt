@@ -11,10 +11,10 @@ use std::thread::Threads;
 use wf_base::{Items, Text};
 use wf_io::{Entry, MemFile, Tree, TreeFault, TreeMem};
 
-fn push_files(alloc: Global, out: &mut Vec<MemFile>, files: &[File]) -> Result<(), AllocError> {
+fn push_files(alloc: Global, out: &mut Vec<MemFile>, files: &[File]) -> Result<(), Fail> {
     for (path, content) in files {
         let path = Text::from_slice(alloc, path.as_bytes())?;
-        let bytes = Text::from_vec(bytes_of(alloc, content)?);
+        let bytes = bytes_of(alloc, content)?;
         out.push(MemFile { path, bytes })?;
     }
     Ok(())

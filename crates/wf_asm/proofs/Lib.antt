@@ -1,0 +1,13 @@
+pub mod BodyLaws
+mod Cases
+pub mod ClassLaws
+pub mod ConstantLaws
+mod Cutting
+mod Decimals
+mod Each
+pub mod GeneratedLaws
+pub mod LabelLaws
+pub mod NameLaws
+pub mod PuttingLaws
+mod Reading
+mod Slots

@@ -1,0 +1,9 @@
+pub mod Assembling
+pub mod Building
+pub mod Constants
+pub mod Generating
+pub mod Giving
+pub mod Lines
+pub mod Putting
+pub mod Saying
+pub mod Words

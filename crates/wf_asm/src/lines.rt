@@ -1,0 +1,14 @@
+//! What one line of a listing says.
+
+mod constants;
+mod heads;
+mod instructions;
+mod line;
+mod members;
+mod operands;
+mod stop;
+mod switches;
+mod words;
+
+pub use line::{is_nothing, line_said};
+pub use stop::Stop;

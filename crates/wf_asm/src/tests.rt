@@ -1,0 +1,4 @@
+mod building;
+mod faults;
+mod forms;
+mod generator;
