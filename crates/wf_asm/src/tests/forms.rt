@@ -80,6 +80,10 @@ fn loads(rt: HostRuntime) {
     assert!(rt;
         matches!(&said, Ok(Said::Body(Item::Step(Step::Load(Constant::Str(text))))) if text.as_slice() == b"a b".as_slice())
     );
+}
+
+#[test]
+fn loads_of_numbers_and_classes(rt: HostRuntime) {
     let said = line_said(rt.alloc(), 1, b"ldc int -7");
     assert!(rt;
         matches!(&said, Ok(Said::Body(Item::Step(Step::Load(Constant::Int(n))))) if *n == -7)
