@@ -1,7 +1,7 @@
 //! Each form of instruction, by the bytes of the JVM's table (JVMS 6.5).
 
 use crate::lines::line_said;
-use crate::listing::{Constant, Item, Said, Step};
+use crate::listing::{Item, Said, Step};
 use crate::names::NAMES;
 use std::alloc::Global;
 
@@ -72,26 +72,6 @@ fn places_of_fields_and_classes(rt: HostRuntime) {
     assert!(rt; is_use(alloc, b"checkcast [I", 0xC0, &[]));
     assert!(rt; is_use(alloc, b"instanceof A", 0xC1, &[]));
     assert!(rt; is_fixed(alloc, b"wide iload 300", &[0xC4, 0x15, 0x01, 0x2C]));
-}
-
-#[test]
-fn loads(rt: HostRuntime) {
-    let said = line_said(rt.alloc(), 1, b"ldc \"a b\"");
-    assert!(rt;
-        matches!(&said, Ok(Said::Body(Item::Step(Step::Load(Constant::Str(text))))) if text.as_slice() == b"a b".as_slice())
-    );
-}
-
-#[test]
-fn loads_of_numbers_and_classes(rt: HostRuntime) {
-    let said = line_said(rt.alloc(), 1, b"ldc int -7");
-    assert!(rt;
-        matches!(&said, Ok(Said::Body(Item::Step(Step::Load(Constant::Int(n))))) if *n == -7)
-    );
-    let said = line_said(rt.alloc(), 1, b"ldc class [I");
-    assert!(rt;
-        matches!(&said, Ok(Said::Body(Item::Step(Step::Load(Constant::Class(name))))) if name.as_slice() == b"[I".as_slice())
-    );
 }
 
 #[test]
