@@ -9,8 +9,8 @@ mod Steady
 mod SteadyLaws
 mod Strip
 mod Unescaping
-mod WritableLaws
-mod WritablePool
-mod WritingLaws
-mod Written
+pub mod WritableLaws
+pub mod WritablePool
+pub mod WritingLaws
+pub mod Written
 mod NameLaws

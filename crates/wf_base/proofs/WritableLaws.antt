@@ -24,7 +24,7 @@ use Rattle.wf_base.proofs.WritingLaws.{Headed, class_of_entry, class_at_is}
 
 -- ---- members
 
-text_writable : (pool : List PoolEntry) (text : List ℕ) (n : ℕ) → n < 65536 → text_at pool n ≡ Some text → Writable (put_place (text_place pool text))
+pub text_writable : (pool : List PoolEntry) (text : List ℕ) (n : ℕ) → n < 65536 → text_at pool n ≡ Some text → Writable (put_place (text_place pool text))
 text_writable pool text n small e =
     let p = place_there pool text_in text n e in
     writable_place (text_place pool text) p.0 p.1 (omega (arith, p.2))
@@ -154,9 +154,9 @@ handlers_writable (suc n) text hs g =
     subst (λ (l : List Handler). Writable (put_handlers l)) (sym g.back.back.same) (writable_then (handler_writable g.first g.value g.front) (handlers_writable n g.back.first g.back.value g.back.front))
 
 -- a code that can be written, and its size in four bytes
-record CodeFits (c : CodeInfo) : Type 0 where
-  writable : Writable (put_code c)
-  small : code_size c < 4294967296
+pub record CodeFits (c : CodeInfo) : Type 0 where
+  pub writable : Writable (put_code c)
+  pub small : code_size c < 4294967296
 
 code_fits : (pool : List PoolEntry) (text : List ℕ) (c : CodeInfo) → CodeIs pool text c → CodeFits c
 unfolding put_code
@@ -180,13 +180,13 @@ code_fits pool text c g =
     })
 
 -- where a method has a code
-record CodeThere (pool : List PoolEntry) (c : CodeInfo) : Type 0 where
-  fits : CodeFits c
-  place : ℕ
-  place_small : place < 65536
-  named : text_at pool place ≡ Some (codes "Code")
+pub record CodeThere (pool : List PoolEntry) (c : CodeInfo) : Type 0 where
+  pub fits : CodeFits c
+  pub place : ℕ
+  pub place_small : place < 65536
+  pub named : text_at pool place ≡ Some (codes "Code")
 
-abbrev Codes : List PoolEntry → List CodeInfo → Type 0
+abbrev pub Codes : List PoolEntry → List CodeInfo → Type 0
 Codes pool [] = Unit {0}
 Codes pool (c ∷ cs) = CodeThere pool c × Codes pool cs
 
@@ -207,7 +207,7 @@ attributes_codes pool (suc n) text xs g =
     attribute_code pool a.back.value a.value a.front.small a.back.found (bytes_eq a.back.value (codes "Code")) (λ e. (bytes_eq-Decides a.back.value (codes "Code")).0 e) r.back.value g.value g.back.value r.back.back.spelled
     (attributes_codes pool n g.back.first g.back.value g.back.front))
 
-method_attributes_writable : (pool : List PoolEntry) (without : Bool) (cs : List CodeInfo) (code : Option CodeInfo) → Codes pool cs → only_code without cs ≡ Some code → Writable (put_method_attributes pool without code)
+pub method_attributes_writable : (pool : List PoolEntry) (without : Bool) (cs : List CodeInfo) (code : Option CodeInfo) → Codes pool cs → only_code without cs ≡ Some code → Writable (put_method_attributes pool without code)
 unfolding put_method_attributes put_code_attribute
 method_attributes_writable pool true [] code there e = subst (λ (o : Option CodeInfo). Writable (put_method_attributes pool true o)) (some_is None code e) (record { has = λ out. (writable_number w16 0 (omega arith)).has out })
 method_attributes_writable pool true (c ∷ cs) code there e = absurd cc
@@ -246,7 +246,7 @@ methods_writable pool (suc n) met text ms k g =
 
 -- ---- the class
 
-class_writable : (pool : List PoolEntry) (name : List ℕ) (n : ℕ) → n < 65536 → class_at pool n ≡ Some name → Writable (put_place (class_place pool name))
+pub class_writable : (pool : List PoolEntry) (name : List ℕ) (n : ℕ) → n < 65536 → class_at pool n ≡ Some name → Writable (put_place (class_place pool name))
 class_writable pool name n small e =
     let p = place_there pool (class_of_entry pool) name n (sym (class_at_is pool n) ∙ e) in
     writable_place (class_place pool name) p.0 p.1 (omega (arith, p.2))

@@ -52,7 +52,7 @@ one_under {two = two} {tag = tag} made one g = subst (UnderTag two tag) (sym g.b
 two_under : {tag : ℕ} {e : PoolEntry} {text : List ℕ} {G : List ℕ → ℕ → Type 0} (made : ℕ → ℕ → PoolEntry) → ((m n : ℕ) (s : List ℕ) → G s m → n < 65536 → UnderTag false tag (made m n)) → Then G (λ m. Then U2 (λ n. Is (made m n))) text e → UnderTag false tag e
 two_under {tag = tag} made one g = subst (UnderTag false tag) (sym g.back.back.same) (one g.value g.back.value g.first g.front g.back.front.small)
 
-places_writable : (m n : ℕ) → m < 65536 → n < 65536 → Writable (put_two_places m n)
+pub places_writable : (m n : ℕ) → m < 65536 → n < 65536 → Writable (put_two_places m n)
 unfolding put_two_places
 places_writable m n first second = writable_then (writable_number w16 m first) (writable_number w16 n second)
 
