@@ -6,8 +6,13 @@ mod Cutting
 mod Decimals
 mod Each
 pub mod GeneratedLaws
+mod HeldLaws
 pub mod LabelLaws
 pub mod NameLaws
 pub mod PuttingLaws
 mod Reading
 mod Slots
+mod SpelledLaws
+mod SpelledMembers
+mod SpelledNames
+mod SpelledPool

@@ -1,7 +1,8 @@
 //! Programs of any size whose classes call one another.
 
-ghost use Rattle.std.specs.Prelude.{◌≡◌, ◌++◌, ◌∷◌, [], ◌<◌, Ok, codes, IfOk, IsOk, OnOk};
+ghost use Rattle.std.specs.Prelude.{◌≡◌, ◌++◌, ◌∷◌, [], ◌<◌, All, Ok, codes, IfOk, IsOk, OnOk};
 ghost use Rattle.wf_base.specs.NameForm.{member_of};
+ghost use Rattle.wf_base.specs.Writing.{HasSpelling};
 ghost use Rattle.wf_asm.specs.declared.listing.Constant.TheVariants as constant;
 ghost use Rattle.wf_asm.specs.declared.listing.Item.TheVariants as item;
 ghost use Rattle.wf_asm.specs.declared.listing.Step.TheVariants as step;
@@ -291,6 +292,7 @@ fn state_behind(state: u32) -> u32
 pub fn make_program(alloc: Global, seed: u32, size: u32) -> Result<Items<ClassInfo>, AllocError>
     ensures program { IfOk result (IsProgramOf seed size) }
     ensures names { IfOk result HaveOwnNames }
+    ensures spelled { IfOk result (All HasSpelling) }
 {
     let mut classes = Vec::new(alloc);
     let object = object_class(alloc)?;

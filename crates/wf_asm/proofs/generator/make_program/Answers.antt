@@ -1,6 +1,7 @@
 use Rattle.wf_asm.proofs.GeneratedLaws.{program_begins, program_next, program_done}
 use Rattle.wf_asm.specs.Generating.{IsProgramOf}
 use Rattle.wf_asm.proofs.NameLaws.{own_names}
+use Rattle.wf_asm.proofs.SpelledLaws.{all_spelled}
 use Rattle.wf_asm.proofs.generator.make_program.Goals as goal
 
 pub loop-i-init : goal.loop-i-init
@@ -19,4 +20,5 @@ returns c =
     rw c.from_vec.ensures (record {
       program = program;
       names = own_names c.args.seed c.args.size c.loop-i.classes.items c.ranges.size.fits program;
+      spelled = all_spelled c.args.seed c.args.size c.loop-i.classes.items c.ranges.size.fits program;
     })
