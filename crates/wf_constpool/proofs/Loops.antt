@@ -1,5 +1,5 @@
 -- A loop that reads items ends at the first that fails.
-use Rattle.std.proofs.Common.{◌≡◌, ℕ, suc, ◌-◌, ◌+◌, ◌<◌, List, ◌∷◌, ◌++◌, Result, Ok, Err, ap, subst, arith}
+use Rattle.std.proofs.Common.{◌≡◌, ℕ, suc, ◌-◌, ◌+◌, ◌<◌, List, ◌∷◌, ◌++◌, Result, Ok, ap, subst, arith}
 use Rattle.wf_base.specs.Place.{Place}
 use Rattle.wf_base.specs.Reading.{Fault, Reader, ◌>>=◌, many, many_on, times}
 use Rattle.wf_base.proofs.Loops.{with_front, with_front_on}

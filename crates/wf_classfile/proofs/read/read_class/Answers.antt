@@ -1,10 +1,10 @@
-use Rattle.std.proofs.Common.{◌≡◌, ℕ, List, Result, Ok, Err, arith, ap, subst, sym}
+use Rattle.std.proofs.Common.{◌≡◌, ℕ, List, Result, Ok, Err, arith, subst}
 use Rattle.std.specs.Prelude.{IfOk}
 use Rattle.wf_base.specs.declared.class_info.ClassInfo.{ClassInfo}
 use Rattle.wf_base.specs.declared.fault.Why.{Why}
 use Rattle.wf_base.specs.ClassFile.{Spells}
 use Rattle.wf_base.specs.Grammar.{IsBytes}
-use Rattle.wf_base.specs.Reading.{Fault, bad, class_of}
+use Rattle.wf_base.specs.Reading.{bad, class_of}
 use Rattle.wf_constpool.specs.declared.fault.ClassFault.{ClassFault}
 use Rattle.wf_constpool.specs.declared.fault.ClassFault.TheVariants.{Bad}
 use Rattle.wf_constpool.specs.Readers.{GivesValue}

@@ -4,7 +4,7 @@ use Rattle.wf_base.specs.declared.class_info.PoolEntry.{PoolEntry}
 use Rattle.wf_base.specs.ClassFile.{PoolIs}
 use Rattle.wf_base.specs.Exactness.{Took}
 use Rattle.wf_base.specs.Place.{Place}
-use Rattle.wf_base.specs.Reading.{Fault, pool_at}
+use Rattle.wf_base.specs.Reading.{pool_at}
 use Rattle.wf_constpool.specs.declared.fault.ClassFault.{ClassFault}
 use Rattle.wf_constpool.specs.Readers.{Gives}
 use Rattle.wf_constpool.proofs.pool.read_pool.Goals as goal

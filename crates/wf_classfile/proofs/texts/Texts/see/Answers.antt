@@ -1,5 +1,4 @@
 use Rattle.std.proofs.Common.{ℕ, List, Some, ap, sym, ◌∙◌}
-use Rattle.wf_base.specs.ClassFile.{text_at}
 use Rattle.wf_classfile.specs.Places.{IsSeen}
 use Rattle.wf_classfile.proofs.NumberLaws.{still_seen, one_more_seen, same_seen}
 use Rattle.wf_classfile.proofs.texts.Texts.see.Goals as goal
