@@ -1,4 +1,4 @@
-ghost use Rattle.std.specs.Prelude.{◌≡◌, ◌<◌, ◌≤◌, ◌++◌, ℕ, List, Option, Some, Ok, length, take, IfOk, OnErr};
+ghost use Rattle.std.specs.Prelude.{◌≡◌, ◌<◌, ◌≤◌, ◌++◌, ◌⊎◌, ℕ, List, Option, Some, Ok, length, take, IfOk, OnErr};
 ghost use Rattle.wf_io.specs.Faults.{Rose};
 
 /// Why a sink takes nothing.
@@ -17,9 +17,14 @@ pub trait Sink {
     /// How many writes have failed, up to the greatest number of 64 bits.
     ghost count: { Self → ℕ };
 
+    /// Whether an empty piece may be handed to it. Of a sink that is known as such alone nobody knows it, so code for
+    /// any sink writes no empty piece.
+    ghost takes_empty: { Self → Type 0 };
+
     /// Takes the first bytes of the piece, at least one, and answers how many. Of an empty piece it takes
     /// nothing and answers 0. A failed write takes nothing.
     fn write(&mut self, piece: &[u8]) -> Result<usize, SinkFault>
+        requires { (0 < length piece.now) ⊎ takes_empty self.old }
         ensures took { (had : List ℕ) → taken self.old ≡ Some had →
             IfOk result (λ n. taken self.new ≡ Some (had ++ take n piece.now)) }
         ensures some { 0 < length piece.now → IfOk result (λ n. 0 < n) }

@@ -77,6 +77,8 @@ impl Sink for SinkMem {
 
     ghost count = { faults_of };
 
+    ghost takes_empty = { λ _. Unit {0} };
+
     fn write(&mut self, piece: &[u8]) -> Result<usize, SinkFault>
         ensures took { IfOk result (λ n. bytes_of self.new ≡ bytes_of self.old ++ take n piece.now) }
         ensures some { 0 < length piece.now → IfOk result (λ n. 0 < n) }

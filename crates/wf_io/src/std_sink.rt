@@ -25,6 +25,8 @@ impl<W: Write> Sink for StdSink<W> {
 
     ghost count = { faults_of };
 
+    ghost takes_empty = { λ _. Unit {0} };
+
     fn write(&mut self, piece: &[u8]) -> Result<usize, SinkFault> {
         if piece.is_empty() {
             return Ok(0);
