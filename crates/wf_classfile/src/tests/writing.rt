@@ -1,6 +1,8 @@
+use super::names::{TWINS, told_apart};
 use super::{BASE, KEPT, OBJECT, changed, not_looked_at};
 use crate::{SpellFault, write_class, written_and_read};
 use std::alloc::{AllocError, Global};
+use std::process::Abort;
 use std::test::Fail;
 use wf_base::{ClassInfo, CodeInfo, FieldInfo, Items, MethodInfo, PoolEntry, Text};
 
@@ -121,21 +123,31 @@ fn what_is_dropped_of_a_file_of_javac(rt: HostRuntime) -> Result<(), Fail> {
     Ok(())
 }
 
-#[test]
-fn classes_of_changed_files_are_written(rt: HostRuntime) -> Result<(), Fail> {
-    for (label, change) in not_looked_at() {
-        let bytes = changed(rt.alloc(), BASE, change)?;
-        let class = super::read(&rt, &bytes)?;
+/// The classes of a file with these changes, written and read again, are the same.
+fn check_written(
+    rt: &(impl Abort + AllocGlobal),
+    file: &[u8],
+    changes: &[(&str, super::Change)],
+) -> Result<(), Fail> {
+    for (label, change) in changes {
+        let bytes = changed(rt.alloc(), file, *change)?;
+        let class = super::read(rt, &bytes)?;
         let text = write_class(rt.alloc(), &class)?;
-        let again = super::read(&rt, text.as_slice())?;
+        let again = super::read(rt, text.as_slice())?;
         assert!(rt; same_class(&class, &again), "{label}");
     }
     Ok(())
 }
 
 #[test]
+fn classes_of_changed_files_are_written(rt: HostRuntime) -> Result<(), Fail> {
+    check_written(&rt, BASE, &not_looked_at())?;
+    check_written(&rt, TWINS, &told_apart())
+}
+
+#[test]
 fn what_is_written_is_read_again(rt: HostRuntime) -> Result<(), Fail> {
-    let files: [(&[u8], usize); 3] = [(OBJECT, 46), (BASE, 188), (KEPT, 484)];
+    let files: [(&[u8], usize); 4] = [(OBJECT, 46), (BASE, 188), (KEPT, 484), (TWINS, 123)];
     for (file, size) in files {
         let class = super::read(&rt, file)?;
         let text = write_class(rt.alloc(), &class)?;
