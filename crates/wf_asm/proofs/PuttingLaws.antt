@@ -5,7 +5,7 @@ use Rattle.std.specs.Int.{w32}
 use Rattle.wf_asm.specs.declared.listing.ListedCase.{ListedCase}
 use Rattle.wf_asm.specs.declared.listing.CodeSoFar.{CodeSoFar}
 use Rattle.wf_asm.specs.declared.stop.Stop.{Stop}
-use Rattle.wf_asm.specs.declared.stop.Stop.TheVariants.{NoBytes, NoMemory}
+use Rattle.wf_asm.specs.declared.stop.Stop.TheVariants.{NotOfForm, NoMemory}
 use Rattle.wf_asm.specs.Putting.{Puts}
 use Rattle.wf_asm.specs.Building.{with_bytes, Label, onto, joined, distance_bytes, case_bytes, table_bytes, lookup_bytes}
 use Rattle.wf_asm.proofs.BodyLaws.{cut}
@@ -96,5 +96,5 @@ code_put (Ok x) so_far code (Some bs) h =
     let same : so_far.code ++ bs ≡ code = cc in
     ap (put_there so_far) same
 code_put (Err NoMemory) so_far code bytes h = tt
-code_put (Err NoBytes) so_far code None h = refl
-code_put (Err NoBytes) so_far code (Some bs) h = cc
+code_put (Err NotOfForm) so_far code None h = refl
+code_put (Err NotOfForm) so_far code (Some bs) h = cc

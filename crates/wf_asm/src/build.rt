@@ -7,7 +7,8 @@ ghost use Rattle.wf_asm.specs.declared.listing.Item.TheVariants as item;
 ghost use Rattle.wf_asm.specs.Building.{body_on, class_of, class_with, classes_of, code_in, code_of, field_of, handler_of, item_on, method_of, methods_of, nothing_yet, statement_on};
 ghost use Rattle.wf_asm.specs.Constants.{place_of};
 ghost use Rattle.wf_asm.specs.Giving.{Gives, GivesAs};
-ghost use Rattle.wf_asm.specs.Putting.{Finds, Puts};
+ghost use Rattle.wf_asm.specs.Putting.{Puts};
+ghost use Rattle.wf_asm.specs.Saying.{Says};
 
 use crate::emit::put_step;
 use crate::fault::AsmFault;
@@ -45,11 +46,13 @@ fn catch_class(pool: &Pool, name: &Option<Text>) -> Result<u16, AllocError>
 #[tactic(auto, unfolding(crate::specs::Building::handler_of))]
 fn handler_of(pool: &Pool, labels: &Labels<'_>, catch: &ListedCatch) -> Result<Handler, Stop>
     requires { length pool.now ≤ 65534 }
-    ensures { Finds result (handler_of pool.now labels.now catch.now) }
+    ensures { Says result (handler_of pool.now labels.now catch.now) }
 {
-    let start = labels.place(catch.from.as_slice()).ok_or(Stop::NoBytes)?;
-    let end = labels.place(catch.to.as_slice()).ok_or(Stop::NoBytes)?;
-    let target = labels.place(catch.handler.as_slice()).ok_or(Stop::NoBytes)?;
+    let start = labels.place(catch.from.as_slice()).ok_or(Stop::NotOfForm)?;
+    let end = labels.place(catch.to.as_slice()).ok_or(Stop::NotOfForm)?;
+    let target = labels
+        .place(catch.handler.as_slice())
+        .ok_or(Stop::NotOfForm)?;
     Ok(Handler {
         start,
         end,
@@ -116,7 +119,7 @@ fn put_statement(
 {
     match put_item(pool, labels, &statement.says, so_far) {
         Ok(()) => Ok(()),
-        Err(Stop::NoBytes) => Err(AsmFault::BadLine {
+        Err(Stop::NotOfForm) => Err(AsmFault::BadLine {
             line: statement.line,
         }),
         Err(Stop::NoMemory) => Err(AsmFault::NoMemory),

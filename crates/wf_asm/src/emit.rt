@@ -28,7 +28,7 @@ fn put_two_signed(number: i128, out: &mut Text) -> Result<(), Stop>
     ensures { Puts result out.new (onto out.old (signed_bytes w16 number)) }
 {
     let Ok(number) = i16::try_from(number) else {
-        return Err(Stop::NoBytes);
+        return Err(Stop::NotOfForm);
     };
     out.push_slice(&number.to_be_bytes())?;
     Ok(())
@@ -40,7 +40,7 @@ fn put_four_signed(number: i128, out: &mut Text) -> Result<(), Stop>
     ensures { Puts result out.new (onto out.old (signed_bytes w32 number)) }
 {
     let Ok(number) = i32::try_from(number) else {
-        return Err(Stop::NoBytes);
+        return Err(Stop::NotOfForm);
     };
     out.push_slice(&number.to_be_bytes())?;
     Ok(())
@@ -52,7 +52,7 @@ fn put_four(number: usize, out: &mut Text) -> Result<(), Stop>
     ensures { Puts result out.new (onto out.old (four_bytes number)) }
 {
     let Ok(number) = u32::try_from(number) else {
-        return Err(Stop::NoBytes);
+        return Err(Stop::NotOfForm);
     };
     out.push_slice(&number.to_be_bytes())?;
     Ok(())
@@ -64,7 +64,7 @@ fn put_near(labels: &Labels<'_>, at: usize, name: &Text, out: &mut Text) -> Resu
     ensures { Puts result out.new (onto out.old (distance_bytes w16 labels.now at name.now)) }
 {
     let Some(far) = distance(labels, at, name) else {
-        return Err(Stop::NoBytes);
+        return Err(Stop::NotOfForm);
     };
     put_two_signed(far, out)
 }
@@ -75,7 +75,7 @@ fn put_far(labels: &Labels<'_>, at: usize, name: &Text, out: &mut Text) -> Resul
     ensures { Puts result out.new (onto out.old (distance_bytes w32 labels.now at name.now)) }
 {
     let Some(far) = distance(labels, at, name) else {
-        return Err(Stop::NoBytes);
+        return Err(Stop::NotOfForm);
     };
     put_four_signed(far, out)
 }

@@ -6,9 +6,7 @@ mod instructions;
 mod line;
 mod members;
 mod operands;
-mod stop;
 mod switches;
 mod words;
 
 pub use line::{is_nothing, line_said};
-pub use stop::Stop;

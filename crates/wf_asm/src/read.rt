@@ -3,14 +3,15 @@
 ghost use Rattle.std.specs.Prelude.{◌≡◌, ◌+◌, ◌^◌, ◌<◌, ◌++◌, ◌∷◌, [], length, Some, OnOk, IfErr};
 ghost use Rattle.std.specs.List.{list_any};
 ghost use Rattle.wf_asm.specs.declared.listing.Statement.{Statement};
-ghost use Rattle.wf_asm.specs.declared.lines.stop.Stop.TheVariants.{NoMemory};
+ghost use Rattle.wf_asm.specs.declared.stop.Stop.TheVariants.{NoMemory};
 ghost use Rattle.wf_asm.specs.Assembling.{with_field, with_method, with_body, gives_label, is_again, depth, method_on, said_outside, said_in_class, said_in_body, said_on, line_on, at_end, listed_of};
 ghost use Rattle.wf_asm.specs.Giving.{Gives};
 ghost use Rattle.wf_asm.specs.Saying.{Says};
 
 use crate::fault::AsmFault;
-use crate::lines::{Stop, is_nothing, line_said};
+use crate::lines::{is_nothing, line_said};
 use crate::listing::{Item, Listed, ListedField, ListedMethod, Open, ReadSoFar, Said, Statement};
+use crate::stop::Stop;
 use crate::words::{drop_spaces, next_line};
 use std::alloc::Global;
 use wf_base::{Items, Text};

@@ -1,13 +1,13 @@
 ghost use Rattle.std.specs.Prelude.{◌≡◌};
 ghost use Rattle.wf_asm.specs.declared.stop.Stop.TheVariants.{NoMemory};
 
-use std::alloc::AllocError;
+use std::alloc::{AllocError, AllocFailed};
 
-/// Why no bytes are put, before it is known at which line.
+/// Why a line says nothing, or why no bytes are put; at which line isn't known yet.
 #[derive(Debug, Drop)]
 pub enum Stop {
-    /// The bytes don't exist.
-    NoBytes,
+    /// It isn't of the form.
+    NotOfForm,
     NoMemory,
 }
 
@@ -15,6 +15,14 @@ impl From<AllocError> for Stop {
     ghost from_gives = { λ _ e. e ≡ NoMemory };
 
     fn from(_: AllocError) -> Stop {
+        Stop::NoMemory
+    }
+}
+
+impl<T: Drop> From<AllocFailed<T>> for Stop {
+    ghost from_gives = { λ _ e. e ≡ NoMemory };
+
+    fn from(_: AllocFailed<T>) -> Stop {
         Stop::NoMemory
     }
 }

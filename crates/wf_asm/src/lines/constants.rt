@@ -6,9 +6,9 @@ ghost use Rattle.std.specs.List.{list_all};
 ghost use Rattle.wf_asm.specs.Saying.{Says};
 
 use crate::lines::operands;
-use crate::lines::stop::Stop;
 use crate::lines::words::name_said;
 use crate::listing::{Constant, Step, Use};
+use crate::stop::Stop;
 use std::alloc::Global;
 use wf_base::Text;
 

@@ -7,9 +7,9 @@ ghost use Rattle.wf_asm.specs.Lines.{interfaces_said, tail_said, super_of, liste
 ghost use Rattle.wf_asm.specs.Saying.{Says};
 
 use crate::lines::operands::int_said;
-use crate::lines::stop::Stop;
 use crate::lines::words::{name_said, names_said};
 use crate::listing::{Listed, ListedField, ListedMethod, Said};
+use crate::stop::Stop;
 use std::alloc::{AllocError, Global};
 use wf_base::{Items, Text, is_native_or_abstract, is_object_name};
 

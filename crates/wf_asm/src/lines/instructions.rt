@@ -6,10 +6,10 @@ ghost use Rattle.std.specs.List.{slice_split};
 ghost use Rattle.wf_asm.specs.Lines.{place_of, opcode_of, primitive_of, with_operand, one_operand, is_wide_of, wide_with, wide_said, place_said, operands_said, step_said};
 ghost use Rattle.wf_asm.specs.Saying.{Says};
 
-use crate::lines::stop::Stop;
 use crate::lines::{constants, members, operands, switches};
 use crate::listing::Step;
 use crate::names::NAMES;
+use crate::stop::Stop;
 use std::alloc::Global;
 use wf_base::Text;
 use wf_opcode::{Form, row_of};

@@ -6,10 +6,10 @@ ghost use Rattle.wf_asm.specs.declared.listing.Step.TheVariants as step;
 ghost use Rattle.wf_asm.specs.Lines.{given, label_line, wide_load, is_label, class_caught, catch_said, step_line, text_load, words_said, all_said, line_said, is_nothing};
 ghost use Rattle.wf_asm.specs.Saying.{Says};
 
-use crate::lines::stop::Stop;
 use crate::lines::words::{label_said, name_said};
 use crate::lines::{constants, heads, instructions};
 use crate::listing::{Constant, Item, ListedCatch, Said, Step};
+use crate::stop::Stop;
 use crate::words::words_of;
 use std::alloc::Global;
 use wf_base::Text;

@@ -6,9 +6,9 @@ ghost use Rattle.wf_asm.specs.Lines.{two_words, one_member, call, any_method, sl
 ghost use Rattle.wf_asm.specs.Saying.{Says};
 
 use crate::lines::operands::u1_said;
-use crate::lines::stop::Stop;
 use crate::lines::words::{member_said, name_said};
 use crate::listing::{Constant, Step, Use};
+use crate::stop::Stop;
 use std::alloc::Global;
 use wf_base::{MemberName, Text, is_method_descriptor};
 

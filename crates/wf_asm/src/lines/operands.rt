@@ -6,10 +6,10 @@ ghost use Rattle.wf_asm.specs.Lines.{given, int_in, s1_said, s2_said, u1_said, u
 ghost use Rattle.wf_base.specs.NameForm.{name_of};
 ghost use Rattle.wf_asm.specs.Saying.{Says, SaysAs};
 
-use crate::lines::stop::Stop;
 use crate::lines::words::{label_said, name_said};
 use crate::listing::{Constant, Step, Use};
 use crate::numbers::number_in;
+use crate::stop::Stop;
 use std::alloc::{AllocError, Global};
 use wf_base::Text;
 

@@ -6,9 +6,9 @@ ghost use Rattle.wf_asm.specs.Lines.{is_default, before_default, table_with, tab
 ghost use Rattle.wf_asm.specs.Saying.{Says};
 
 use crate::lines::operands::int_said;
-use crate::lines::stop::Stop;
 use crate::lines::words::{label_said, labels_said};
 use crate::listing::{ListedCase, ListedLookup, ListedTable, Step};
+use crate::stop::Stop;
 use std::alloc::Global;
 use wf_base::{Items, Text};
 

@@ -5,7 +5,7 @@ ghost use Rattle.wf_base.specs.NameForm.{name_of};
 ghost use Rattle.wf_asm.specs.Lines.{names_of, divided, member_said, label_said, labels_said};
 ghost use Rattle.wf_asm.specs.Saying.{Says};
 
-use crate::lines::stop::Stop;
+use crate::stop::Stop;
 use std::alloc::Global;
 use wf_base::{Items, MemberName, Text, read_name};
 
