@@ -1,9 +1,11 @@
 //! Each form of instruction, by the bytes of the JVM's table (JVMS 6.5).
 
 use crate::lines::line_said;
-use crate::listing::{Item, Said, Step};
+use crate::listing::{Constant, Item, Said, Step};
 use crate::names::NAMES;
 use std::alloc::Global;
+use std::test::Fail;
+use wf_base::Text;
 
 /// Whether a line is an instruction of these bytes.
 fn is_fixed(alloc: Global, line: &[u8], bytes: &[u8]) -> bool {
@@ -20,6 +22,25 @@ fn is_use(alloc: Global, line: &[u8], op: u8, rest: &[u8]) -> bool {
             && used.rest.as_slice() == rest,
         _ => false,
     }
+}
+
+/// Whether a line loads this constant in the shortest form.
+fn is_load(alloc: Global, line: &[u8], wanted: &Constant) -> bool {
+    match line_said(alloc, 1, line) {
+        Ok(Said::Body(Item::Step(Step::Load(constant)))) => constant == *wanted,
+        _ => false,
+    }
+}
+
+#[test]
+fn loads(rt: HostRuntime) -> Result<(), Fail> {
+    let alloc = rt.alloc();
+    let text = Constant::Str(Text::from_slice(alloc, b"a b")?);
+    let class = Constant::Class(Text::from_slice(alloc, b"[I")?);
+    assert!(rt; is_load(alloc, b"ldc \"a b\"", &text));
+    assert!(rt; is_load(alloc, b"ldc int -7", &Constant::Int(-7)));
+    assert!(rt; is_load(alloc, b"ldc class [I", &class));
+    Ok(())
 }
 
 #[test]
