@@ -1,9 +1,7 @@
 -- The set of a class's constants, as the list of its definition.
-use Rattle.std.proofs.Common.{◌≡◌, ℕ, suc, ◌+◌, ◌<◌, ◌≤◌, Bool, true, false, ◌&&◌, ◌||◌, cond, if◌then◌else◌, nat_lt, List, [], ◌∷◌, ◌++◌, length, get_or, drop, map, Some, None, position, refl, sym, ap, ◌∙◌, arith, add-one, drop-cons, ltb-false}
+use Rattle.std.proofs.Common.{◌≡◌, ℕ, suc, ◌+◌, ◌<◌, ◌≤◌, Bool, true, false, ◌||◌, cond, if◌then◌else◌, nat_lt, List, [], ◌∷◌, ◌++◌, length, get_or, drop, map, Some, None, position, refl, sym, ap, ◌∙◌, arith, add-one, drop-cons, ltb-false}
 use Rattle.std.proofs.lemmas.List.Recursion.{is_position_or_len}
 use Rattle.std.specs.List.{flat_map, list_any, position_or_len}
-use Rattle.std.specs.Str.{bytes_eq}
-use Rattle.wf_base.specs.declared.member.MemberName.{MemberName}
 use Rattle.wf_asm.specs.declared.listing.Constant.{Constant}
 use Rattle.wf_asm.specs.declared.listing.Constant.TheVariants as constant
 use Rattle.wf_asm.specs.contracts.listing.ConstantPartialEq.TheImpl.{eq-value}
@@ -13,13 +11,6 @@ use Rattle.wf_asm.specs.Constants.{same, with_constant, with_constants, place_of
 abbrev pub are_one : Constant → Constant → Bool
 are_one = (eq-value).it
 
-regroup : (x y z : Bool) → (x && (y && z)) ≡ ((x && y) && z)
-regroup true y z = refl
-regroup false y z = refl
-
-one_member : (m n : MemberName) → are_one (constant.Field m) (constant.Field n) ≡ same (constant.Field m) (constant.Field n)
-one_member m n = regroup (bytes_eq m.class n.class) (bytes_eq m.name n.name) (bytes_eq m.desc n.desc)
-
 pub are_one-same : (a b : Constant) → are_one a b ≡ same a b
 are_one-same (constant.Text a) (constant.Text b) = refl
 are_one-same (constant.Class a) (constant.Class b) = refl
@@ -28,9 +19,9 @@ are_one-same (constant.Int a) (constant.Int b) = refl
 are_one-same (constant.Long a) (constant.Long b) = refl
 are_one-same (constant.Behind a) (constant.Behind b) = refl
 are_one-same (constant.NameType a c) (constant.NameType b d) = refl
-are_one-same (constant.Field m) (constant.Field n) = one_member m n
-are_one-same (constant.Method m) (constant.Method n) = one_member m n
-are_one-same (constant.InterfaceMethod m) (constant.InterfaceMethod n) = one_member m n
+are_one-same (constant.Field m) (constant.Field n) = refl
+are_one-same (constant.Method m) (constant.Method n) = refl
+are_one-same (constant.InterfaceMethod m) (constant.InterfaceMethod n) = refl
 are_one-same a b = refl
 
 any_one : (c : Constant) (cs : List Constant) → list_any (are_one c) cs ≡ list_any (same c) cs

@@ -12,7 +12,8 @@ use Rattle.wf_base.specs.declared.class_info.PoolEntry.TheVariants as entry
 use Rattle.wf_base.specs.declared.member.MemberName.{MemberName}
 use Rattle.wf_asm.specs.declared.listing.Constant.{Constant}
 use Rattle.wf_asm.specs.declared.listing.Constant.TheVariants as constant
-use Rattle.wf_asm.specs.Constants.{same, same_member, with_constant, with_constants, place_of, entry_of, pool_of}
+use Rattle.wf_base.specs.Members.{same_member}
+use Rattle.wf_asm.specs.Constants.{same, with_constant, with_constants, place_of, entry_of, pool_of}
 use Rattle.wf_asm.proofs.ConstantLaws.{place_fits}
 
 -- a constant is one of these

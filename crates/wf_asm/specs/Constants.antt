@@ -8,6 +8,7 @@ use Rattle.std.specs.Str.{bytes_eq}
 use Rattle.wf_base.specs.declared.class_info.PoolEntry.{PoolEntry}
 use Rattle.wf_base.specs.declared.class_info.PoolEntry.TheVariants as entry
 use Rattle.wf_base.specs.declared.member.MemberName.{MemberName}
+use Rattle.wf_base.specs.Members.{same_member}
 use Rattle.wf_asm.specs.declared.listing.Constant.{Constant}
 use Rattle.wf_asm.specs.declared.listing.Constant.TheVariants as constant
 use Rattle.wf_asm.specs.declared.listing.Item.{Item}
@@ -19,10 +20,7 @@ use Rattle.wf_asm.specs.declared.listing.Statement.{Statement}
 use Rattle.wf_asm.specs.declared.listing.Step.{Step}
 use Rattle.wf_asm.specs.declared.listing.Step.TheVariants as step
 
--- whether two members are one, and whether two constants are
-abbrev pub same_member : MemberName → MemberName → Bool
-same_member m n = bytes_eq m.class n.class && bytes_eq m.name n.name && bytes_eq m.desc n.desc
-
+-- whether two constants are one
 abbrev pub same : Constant → Constant → Bool
 same (constant.Text a) (constant.Text b) = bytes_eq a b
 same (constant.Class a) (constant.Class b) = bytes_eq a b

@@ -12,6 +12,7 @@ use Rattle.wf_base.specs.NameForm.{member_of, name_of}
 use Rattle.wf_base.specs.Names.{object_name}
 use Rattle.wf_opcode.specs.declared.form.Form.{Form}
 use Rattle.wf_opcode.specs.declared.form.Form.TheVariants as form
+use Rattle.wf_opcode.specs.Instructions.{is_widened}
 use Rattle.wf_opcode.specs.Table.{row_of}
 use Rattle.wf_asm.specs.declared.listing.Constant.{Constant}
 use Rattle.wf_asm.specs.declared.listing.Constant.TheVariants as constant
@@ -322,15 +323,11 @@ abbrev pub wide_iinc_said : Words → Option Step
 wide_iinc_said (l ∷ c ∷ []) = u2_said l >>= λ local. s2_said c >>= λ n. Some (fixed (0xC4 ∷ 0x84 ∷ local ++ n))
 wide_iinc_said ws = None
 
--- what may stand behind `wide`, but for iinc: the opcodes of loads, of stores and of ret with a local
-abbrev pub is_wide_of : ℕ → Bool
-is_wide_of op = (nat_le 0x15 op && nat_le op 0x19) || (nat_le 0x36 op && nat_le op 0x3A) || op == 0xA9
-
 abbrev pub widened : ℕ → List ℕ → Step
 widened op bytes = fixed (0xC4 ∷ op ∷ bytes)
 
 abbrev pub wide_with : ℕ → Words → Option Step
-wide_with op ws = if op == 0x84 then wide_iinc_said ws else (given (is_wide_of op) ws >>= one_operand u2_said (widened op))
+wide_with op ws = if op == 0x84 then wide_iinc_said ws else (given (is_widened op) ws >>= one_operand u2_said (widened op))
 
 abbrev pub wide_said : Words → Option Step
 wide_said [] = None

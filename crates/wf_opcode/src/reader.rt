@@ -28,8 +28,8 @@ fn target_of(pc: u16, far: i32) -> Option<u16>
     u16::try_from(target).ok()
 }
 
-/// Whether an instruction takes a local of two bytes behind `wide`.
-fn is_widened(opcode: u8) -> bool
+/// Whether the instruction of an opcode takes a local of two bytes behind `wide`: it is a load, a store or ret (JVMS 6.5, wide).
+pub fn is_widened(opcode: u8) -> bool
     ensures { result ≡ is_widened opcode }
 {
     matches!(opcode, 0x15..=0x19 | 0x36..=0x3A | 0xA9)

@@ -3,7 +3,7 @@
 ghost use Rattle.std.specs.Prelude.{◌≡◌, position};
 ghost use Rattle.std.specs.Str.{bytes_eq};
 ghost use Rattle.std.specs.List.{slice_split};
-ghost use Rattle.wf_asm.specs.Lines.{place_of, opcode_of, primitive_of, with_operand, one_operand, is_wide_of, wide_with, wide_said, place_said, operands_said, step_said};
+ghost use Rattle.wf_asm.specs.Lines.{place_of, opcode_of, primitive_of, with_operand, one_operand, wide_with, wide_said, place_said, operands_said, step_said};
 ghost use Rattle.wf_asm.specs.Saying.{Says};
 
 use crate::lines::{constants, members, operands, switches};
@@ -12,7 +12,7 @@ use crate::names::NAMES;
 use crate::stop::Stop;
 use std::alloc::Global;
 use wf_base::Text;
-use wf_opcode::{Form, row_of};
+use wf_opcode::{Form, is_widened, row_of};
 
 /// The place of a word among the words of a line.
 fn place_of(word: &[u8], line: &[u8]) -> Option<usize>
@@ -55,20 +55,13 @@ fn new_array(alloc: Global, op: u8, words: &[Text]) -> Result<Step, Stop>
     }
 }
 
-/// Whether `wide` takes this instruction with a local: it is a load, a store or ret.
-fn is_wide_of(op: u8) -> bool
-    ensures { result ≡ is_wide_of op }
-{
-    matches!(op, 0x15..=0x19 | 0x36..=0x3A | 0xA9)
-}
-
 fn wide_with(alloc: Global, op: u8, words: &[Text]) -> Result<Step, Stop>
     ensures { Says result (wide_with op words.now) }
 {
     if op == 0x84 {
         return operands::wide_iinc_said(alloc, words);
     }
-    if !is_wide_of(op) {
+    if !is_widened(op) {
         return Err(Stop::NotOfForm);
     }
     operands::wide_local(alloc, op, words)
