@@ -1,14 +1,4 @@
-pub mod ClassFile
-pub mod Descriptors
-pub mod Exactness
-pub mod Grammar
+pub mod Bytes
+pub mod Comparisons
 pub mod Items
-pub mod NameForm
-pub mod Names
-pub mod Place
-pub mod Reading
-pub mod Report
-pub mod Members
-pub mod Words
-pub mod Writing
 pub mod Text

@@ -1,4 +1,4 @@
-ghost use Rattle.std.specs.Prelude.{◌≡◌, ◌==◌, ◌++◌, List, [], IfOk, OnOk, OnErr};
+ghost use Rattle.std.specs.Prelude.{◌≡◌, ◌==◌, ◌++◌, ◌+◌, ◌≤◌, List, [], length, take, drop, IfOk, OnOk, OnErr};
 ghost use Rattle.std.specs.Cmp.Lexicographic.{pointwise, slice_cmp};
 ghost use Rattle.std.proofs.Common.{rules};
 ghost use Rattle.std.specs.Cmp.{partial_order_from_own_ties};
@@ -20,33 +20,37 @@ pub struct Text {
     bytes: Bytes,
 }
 
-/// A text has its bytes alone, or shares them with its clones.
+/// A text has its bytes alone, or is a part of bytes that it shares: the place of its first byte, and how
+/// many it has.
 #[derive(Debug, Drop)]
 enum Bytes {
     Own(Vec<u8>),
-    Shared(Arc<Vec<u8>>),
+    Shared(Arc<Vec<u8>>, usize, usize),
 }
 
 impl Bytes {
-    ghost use Rattle.wf_base.specs.Text.{bytes_of};
+    ghost use Rattle.wf_base.specs.Text.{bytes_of, Fits};
 
     fn as_slice(&self) -> &[u8]
+        requires { Fits self.now }
         ensures { result.now ≡ bytes_of self.now }
     {
         match self {
             Bytes::Own(bytes) => bytes.as_slice(),
-            Bytes::Shared(bytes) => bytes.as_slice(),
+            Bytes::Shared(bytes, first, len) => &bytes.as_slice()[*first..*first + *len],
         }
     }
 }
 
 impl Model for Text {
     ghost use Rattle.std.specs.Prelude.{List, ℕ};
-    ghost use Rattle.wf_base.specs.Text.{bytes_of};
+    ghost use Rattle.wf_base.specs.Text.{bytes_of, Fits};
 
     ghost Value = { List ℕ };
 
     ghost view = { λ t. bytes_of t.bytes };
+
+    ghost invariant = { λ t. Fits t.bytes };
 }
 
 impl Text {
@@ -64,14 +68,48 @@ impl Text {
         Ok(Text::from_vec(Vec::from_slice(alloc, bytes)?))
     }
 
-    /// A copy of the bytes that its clones share, so that cloning it takes no memory.
+    /// A copy of the bytes that its clones and parts share, so that making these takes no memory.
     pub fn shared(alloc: Global, bytes: &[u8]) -> Result<Text, AllocError>
         ensures { IfOk result (λ text. text ≡ bytes.now) }
     {
+        let len = bytes.len();
         let bytes = Arc::new(alloc, Vec::from_slice(alloc, bytes)?)?;
         Ok(Text {
-            bytes: Bytes::Shared(bytes),
+            bytes: Bytes::Shared(bytes, 0, len),
         })
+    }
+
+    /// The same text, whose clones and parts share its bytes. It moves bytes that it has alone, and copies none.
+    pub fn into_shared(self, alloc: Global) -> Result<Text, AllocError>
+        ensures { IfOk result (λ text. text ≡ self) }
+    {
+        match self.bytes {
+            Bytes::Own(bytes) => {
+                let len = bytes.len();
+                let bytes = Arc::new(alloc, bytes)?;
+                Ok(Text {
+                    bytes: Bytes::Shared(bytes, 0, len),
+                })
+            }
+            Bytes::Shared(bytes, first, len) => Ok(Text {
+                bytes: Bytes::Shared(bytes, first, len),
+            }),
+        }
+    }
+
+    /// `len` of its bytes, from `first` on. It shares them where the text shares its bytes already, and copies
+    /// them elsewhere.
+    #[tactic(auto, using(crate::proofs::Parts::shown))]
+    pub fn part(&self, alloc: Global, first: usize, len: usize) -> Result<Text, AllocError>
+        requires { first + len ≤ length self.now }
+        ensures { IfOk result (λ text. text ≡ take len (drop first self.now)) }
+    {
+        match &self.bytes {
+            Bytes::Own(bytes) => Text::from_slice(alloc, &bytes.as_slice()[first..first + len]),
+            Bytes::Shared(bytes, begin, _) => Ok(Text {
+                bytes: Bytes::Shared(bytes.clone()?, *begin + first, len),
+            }),
+        }
     }
 
     pub fn from_vec(bytes: Vec<u8>) -> Text
@@ -95,8 +133,9 @@ impl Text {
     {
         match &mut self.bytes {
             Bytes::Own(own) => own.extend_from_slice(bytes),
-            Bytes::Shared(shared) => {
-                let mut own = Vec::from_slice(*shared.allocator(), shared.as_slice())?;
+            Bytes::Shared(shared, first, len) => {
+                let shown = &shared.as_slice()[*first..*first + *len];
+                let mut own = Vec::from_slice(*shared.allocator(), shown)?;
                 own.extend_from_slice(bytes)?;
                 self.bytes = Bytes::Own(own);
                 Ok(())
@@ -112,7 +151,7 @@ impl Clone for Text {
         Ok(Text {
             bytes: match &self.bytes {
                 Bytes::Own(bytes) => Bytes::Own(bytes.clone()?),
-                Bytes::Shared(bytes) => Bytes::Shared(bytes.clone()?),
+                Bytes::Shared(bytes, first, len) => Bytes::Shared(bytes.clone()?, *first, *len),
             },
         })
     }

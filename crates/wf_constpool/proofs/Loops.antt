@@ -1,8 +1,8 @@
 -- A loop that reads items ends at the first that fails.
 use Rattle.std.proofs.Common.{◌≡◌, ℕ, suc, ◌-◌, ◌+◌, ◌<◌, List, ◌∷◌, ◌++◌, Result, Ok, ap, subst, arith}
-use Rattle.wf_base.specs.Place.{Place}
-use Rattle.wf_base.specs.Reading.{Fault, Reader, ◌>>=◌, many, many_on, times}
-use Rattle.wf_base.proofs.Loops.{with_front, with_front_on}
+use Rattle.wf_bytes.specs.Place.{Place}
+use Rattle.wf_bytes.specs.Reading.{Fault, Reader, ◌>>=◌, many, many_on, times}
+use Rattle.wf_bytes.proofs.Loops.{with_front, with_front_on}
 use Rattle.wf_constpool.specs.declared.fault.ClassFault.{ClassFault}
 use Rattle.wf_constpool.specs.declared.fault.ClassFault.TheVariants.{Bad, NoMemory}
 use Rattle.wf_constpool.specs.Readers.{Fails}

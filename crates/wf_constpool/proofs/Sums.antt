@@ -1,15 +1,25 @@
 -- The bytes that constants take, and where a wrong place stands among them.
-use Rattle.std.proofs.Common.{◌≡◌, ℕ, ◌+◌, ◌<◌, ◌≤◌, Bool, true, false, cond, List, [], ◌∷◌, ◌++◌, get_or, length, drop, sym, ap, ◌∙◌, arith}
+use Rattle.std.proofs.Common.{◌≡◌, ℕ, ◌+◌, ◌<◌, ◌≤◌, Bool, true, false, cond, List, [], ◌∷◌, ◌++◌, get_or, length, drop, refl, sym, ap, ◌∙◌, arith}
 use Rattle.std.proofs.lemmas.List.{at_drop_more}
-use Rattle.wf_base.specs.declared.class_info.PoolEntry.{PoolEntry}
-use Rattle.wf_base.specs.declared.class_info.PoolEntry.TheVariants.{Unusable, Utf8, Integer, Float, Long, Double, Class, Str, Field, Method, InterfaceMethod, NameType, Handle, MethodKind, Dynamic}
-use Rattle.wf_base.specs.ClassFile.{is_sound, has_class, has_text}
-use Rattle.wf_base.specs.Reading.{size_of, wrong_in, wrong_from}
-use Rattle.wf_constpool.specs.Sizes.{sizes}
+use Rattle.wf_data.specs.declared.class_info.PoolEntry.{PoolEntry}
+use Rattle.wf_data.specs.declared.class_info.PoolEntry.TheVariants.{Unusable, Utf8, Integer, Float, Long, Double, Class, Str, Field, Method, InterfaceMethod, NameType, Handle, MethodKind, Dynamic}
+use Rattle.wf_grammar.specs.ClassFile.{is_sound}
+use Rattle.wf_data.specs.Pool.{has_class, has_text}
+use Rattle.wf_grammar.specs.Reading.{size_of, wrong_in, wrong_from}
+use Rattle.wf_constpool.specs.Sizes.{sizes, constants}
 
 pub sizes_push : (es : List PoolEntry) (e : PoolEntry) → sizes (es ++ e ∷ []) ≡ sizes es + size_of e
 sizes_push [] e = omega arith
 sizes_push (x ∷ es) e = omega (arith, sizes_push es e)
+
+-- a pool that begins with an unusable place goes on doing so
+pub constants_push : (es : List PoolEntry) (e : PoolEntry) → es ≡ Unusable ∷ constants es → constants (es ++ e ∷ []) ≡ constants es ++ e ∷ []
+constants_push [] e h = absurd cc
+constants_push (x ∷ es) e h = refl
+
+pub still_unusable : (es : List PoolEntry) (e : PoolEntry) → es ≡ Unusable ∷ constants es → es ++ e ∷ [] ≡ Unusable ∷ constants (es ++ e ∷ [])
+still_unusable [] e h = absurd cc
+still_unusable (x ∷ es) e h = ap (λ (xs : List PoolEntry). xs ++ e ∷ []) h
 
 -- the next constant
 pub sizes_drop : (es : List PoolEntry) (i : ℕ) (d : PoolEntry) → i < length es → sizes (drop i es) ≡ size_of (get_or es i d) + sizes (drop (i + 1) es)

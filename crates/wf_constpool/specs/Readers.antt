@@ -1,6 +1,6 @@
 -- What the readers of class files give, against the functions that read lists.
 use Rattle.std.specs.Prelude.{◌≡◌, Result, Ok, Err}
-use Rattle.wf_base.specs.Reading.{Fault, bad}
+use Rattle.wf_bytes.specs.Reading.{Fault, bad}
 use Rattle.wf_constpool.specs.declared.fault.ClassFault.{ClassFault}
 use Rattle.wf_constpool.specs.declared.fault.ClassFault.TheVariants.{Bad, NoMemory}
 

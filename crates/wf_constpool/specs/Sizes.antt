@@ -1,7 +1,11 @@
--- How many bytes the constants of a pool take together.
-use Rattle.std.specs.Prelude.{ℕ, ◌+◌, List, [], ◌∷◌}
-use Rattle.wf_base.specs.declared.class_info.PoolEntry.{PoolEntry}
-use Rattle.wf_base.specs.Reading.{size_of}
+-- The constants of a pool, and how many bytes they take together (this project's own).
+use Rattle.std.specs.Prelude.{ℕ, ◌+◌, List, [], ◌∷◌, drop}
+use Rattle.wf_data.specs.declared.class_info.PoolEntry.{PoolEntry}
+use Rattle.wf_grammar.specs.Reading.{size_of}
+
+-- what stands behind place 0
+abbrev pub constants : List PoolEntry → List PoolEntry
+constants pool = drop 1 pool
 
 abbrev pub sizes : List PoolEntry → ℕ
 sizes [] = 0

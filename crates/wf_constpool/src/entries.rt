@@ -1,17 +1,21 @@
 //! The constants of a pool, each behind its tag (JVMS table 4.4-A).
 
-ghost use Rattle.std.specs.Prelude.{◌≡◌, ℕ, ◌+◌, ◌<◌, ◌^◌, ◌||◌, ◌==◌, length, IfOk};
+ghost use Rattle.std.specs.Prelude.{◌≡◌, ℕ, ◌+◌, ◌<◌, ◌^◌, ◌||◌, ◌==◌, ◌∷◌, length, IfOk};
 ghost use Rattle.std.specs.List.{list_all};
-ghost use Rattle.wf_base.specs.declared.class_info.PoolEntry.{PoolEntry};
-ghost use Rattle.wf_base.specs.ClassFile.{is_text_byte};
-ghost use Rattle.wf_base.specs.Reading.{bad_byte_from, text_of, text_entry, two_places, handle_entry, narrow_as, is_wide_tag, wide_as, pool_entry, pool_place, many_on, size_of};
+ghost use Rattle.wf_data.specs.declared.class_info.PoolEntry.{PoolEntry};
+ghost use Rattle.wf_data.specs.declared.class_info.PoolEntry.TheVariants.{Unusable};
+ghost use Rattle.wf_grammar.specs.ClassFile.{is_text_byte};
+ghost use Rattle.wf_grammar.specs.Reading.{bad_byte_from, text_of, text_entry, two_places, handle_entry, narrow_as, is_wide_tag, wide_as, pool_entry, pool_place, size_of};
+ghost use Rattle.wf_bytes.specs.Reading.{many_on};
 ghost use Rattle.wf_constpool.specs.Readers.{Gives, GivesAs};
-ghost use Rattle.wf_constpool.specs.Sizes.{sizes};
+ghost use Rattle.wf_constpool.specs.Sizes.{sizes, constants};
 
 use crate::fault::ClassFault;
-use crate::items::{run, u1, u2, u4, u8};
+use crate::items::{text, u1, u2, u4, u8};
 use std::alloc::Global;
-use wf_base::{Cursor, PoolEntry, Text, Why};
+use wf_base::Text;
+use wf_bytes::{Cursor, Why};
+use wf_data::PoolEntry;
 
 fn is_text_byte(byte: u8) -> bool
     ensures { result ≡ is_text_byte byte }
@@ -41,23 +45,23 @@ fn bad_byte_from(at: u32, bytes: &[u8]) -> u32
     place
 }
 
-#[tactic(auto, unfolding(wf_base::specs::Reading::text_of, wf_base::specs::Reading::run))]
+#[tactic(auto, unfolding(wf_grammar::specs::Reading::text_of, wf_bytes::specs::Reading::run))]
 fn text_of(alloc: Global, cursor: &mut Cursor<'_>, n: u16) -> Result<Text, ClassFault>
     ensures text { Gives cursor.new result (text_of n cursor.old) }
     ensures size { IfOk result (λ text. cursor.new.at ≡ cursor.old.at + length text) }
 {
     let at = cursor.at();
-    let bytes = run(cursor, n as u32)?;
-    if !are_text_bytes(bytes) {
+    let text = text(alloc, cursor, n as u32)?;
+    if !are_text_bytes(text.as_slice()) {
         return Err(ClassFault::Bad {
-            offset: bad_byte_from(at, bytes),
+            offset: bad_byte_from(at, text.as_slice()),
             why: Why::Utf8,
         });
     }
-    Ok(Text::from_slice(alloc, bytes)?)
+    Ok(text)
 }
 
-#[tactic(auto, unfolding(wf_base::specs::Reading::text_entry, wf_base::specs::Reading::number))]
+#[tactic(auto, unfolding(wf_grammar::specs::Reading::text_entry, wf_bytes::specs::Reading::number))]
 fn text_entry(alloc: Global, cursor: &mut Cursor<'_>) -> Result<PoolEntry, ClassFault>
     ensures entry { Gives cursor.new result (text_entry cursor.old) }
     ensures size { IfOk result (λ e. cursor.new.at + 1 ≡ cursor.old.at + size_of e) }
@@ -68,7 +72,7 @@ fn text_entry(alloc: Global, cursor: &mut Cursor<'_>) -> Result<PoolEntry, Class
 }
 
 /// Two places of the pool, for any constant that is made of two.
-#[tactic(auto, unfolding(wf_base::specs::Reading::two_places, wf_base::specs::Reading::number))]
+#[tactic(auto, unfolding(wf_grammar::specs::Reading::two_places, wf_bytes::specs::Reading::number))]
 fn two_places(cursor: &mut Cursor<'_>) -> Result<(u16, u16), ClassFault>
     ensures places { (made : ℕ → ℕ → PoolEntry) → GivesAs (λ r. made r.0 r.1) cursor.new result (two_places made cursor.old) }
     ensures size { IfOk result (λ r. cursor.new.at ≡ cursor.old.at + 4) }
@@ -78,7 +82,7 @@ fn two_places(cursor: &mut Cursor<'_>) -> Result<(u16, u16), ClassFault>
     Ok((first, second))
 }
 
-#[tactic(auto, unfolding(wf_base::specs::Reading::handle_entry, wf_base::specs::Reading::number))]
+#[tactic(auto, unfolding(wf_grammar::specs::Reading::handle_entry, wf_bytes::specs::Reading::number))]
 fn handle_entry(cursor: &mut Cursor<'_>) -> Result<PoolEntry, ClassFault>
     ensures entry { Gives cursor.new result (handle_entry cursor.old) }
     ensures size { IfOk result (λ e. cursor.new.at + 1 ≡ cursor.old.at + size_of e) }
@@ -89,7 +93,7 @@ fn handle_entry(cursor: &mut Cursor<'_>) -> Result<PoolEntry, ClassFault>
 }
 
 /// What follows the tag of a constant that takes one place.
-#[tactic(auto, unfolding(wf_base::specs::Reading::narrow_as, wf_base::specs::Reading::integer_entry, wf_base::specs::Reading::float_entry, wf_base::specs::Reading::one_place, wf_base::specs::Reading::number))]
+#[tactic(auto, unfolding(wf_grammar::specs::Reading::narrow_as, wf_grammar::specs::Reading::integer_entry, wf_grammar::specs::Reading::float_entry, wf_grammar::specs::Reading::one_place, wf_bytes::specs::Reading::number))]
 fn narrow_as(
     alloc: Global,
     cursor: &mut Cursor<'_>,
@@ -142,7 +146,7 @@ fn is_wide_tag(tag: u8) -> bool
 }
 
 /// What follows the tag of a Long or a Double.
-#[tactic(auto, unfolding(wf_base::specs::Reading::wide_as, wf_base::specs::Reading::long_entry, wf_base::specs::Reading::double_entry, wf_base::specs::Reading::number))]
+#[tactic(auto, unfolding(wf_grammar::specs::Reading::wide_as, wf_grammar::specs::Reading::long_entry, wf_grammar::specs::Reading::double_entry, wf_bytes::specs::Reading::number))]
 fn wide_as(cursor: &mut Cursor<'_>, tag: u8) -> Result<PoolEntry, ClassFault>
     ensures entry { Gives cursor.new result (wide_as tag cursor.old) }
     ensures size { IfOk result (λ e. cursor.new.at + 1 ≡ cursor.old.at + size_of e) }
@@ -157,7 +161,7 @@ fn wide_as(cursor: &mut Cursor<'_>, tag: u8) -> Result<PoolEntry, ClassFault>
 
 /// A constant, where so many places are left, its own among them. Tells how many are left behind it, and
 /// whether the first of them belongs to it.
-#[tactic(auto, unfolding(wf_base::specs::Reading::pool_entry, wf_base::specs::Reading::entry_as, wf_base::specs::Reading::number))]
+#[tactic(auto, unfolding(wf_grammar::specs::Reading::pool_entry, wf_grammar::specs::Reading::entry_as, wf_bytes::specs::Reading::number))]
 fn pool_entry(
     alloc: Global,
     cursor: &mut Cursor<'_>,
@@ -188,7 +192,7 @@ fn pool_entry(
 }
 
 /// What stands at the next place: nothing that is used where the place belongs to a wide constant.
-#[tactic(auto, unfolding(wf_base::specs::Reading::pool_place))]
+#[tactic(auto, unfolding(wf_grammar::specs::Reading::pool_place))]
 fn pool_place(
     alloc: Global,
     cursor: &mut Cursor<'_>,
@@ -206,8 +210,14 @@ fn pool_place(
     pool_entry(alloc, cursor, left, wide)
 }
 
-/// What stands at so many places.
-#[tactic(auto, using(wf_base::proofs::Loops::goes_on_on, crate::proofs::Loops::ends_on, wf_base::proofs::Loops::is_done_on, crate::proofs::Sums::sizes_push))]
+/// For how many places of a pool with so many more of them there may be room in the bytes that are left: no
+/// place takes fewer than 3, and place 0 none.
+fn room(cursor: &Cursor<'_>, count: u16) -> usize {
+    1 + (count as usize).min(cursor.left() / 3)
+}
+
+/// What stands at so many places behind place 0, which is unusable.
+#[tactic(auto, using(wf_bytes::proofs::Loops::goes_on_on, crate::proofs::Loops::ends_on, wf_bytes::proofs::Loops::is_done_on, crate::proofs::Sums::sizes_push, crate::proofs::Sums::constants_push, crate::proofs::Sums::still_unusable))]
 pub fn places(
     alloc: Global,
     cursor: &mut Cursor<'_>,
@@ -215,10 +225,12 @@ pub fn places(
     left: &mut u16,
     wide: &mut bool,
 ) -> Result<Vec<PoolEntry>, ClassFault>
-    ensures entries { GivesAs (λ v. (v.items, (left.new, wide.new))) cursor.new result (many_on pool_place count (left.old, wide.old) cursor.old) }
+    ensures entries { GivesAs (λ v. (constants v.items, (left.new, wide.new))) cursor.new result (many_on pool_place count (left.old, wide.old) cursor.old) }
+    ensures first { IfOk result (λ v. v.items ≡ Unusable ∷ constants v.items) }
     ensures size { IfOk result (λ v. cursor.new.at ≡ cursor.old.at + sizes v.items) }
 {
-    let mut entries = Vec::new(alloc);
+    let mut entries = Vec::with_capacity(alloc, room(cursor, count))?;
+    entries.push(PoolEntry::Unusable)?;
     for _ in 0..count {
         entries.push(pool_place(alloc, cursor, left, wide)?)?;
     }

@@ -3,7 +3,7 @@ ghost use Rattle.wf_constpool.specs.declared.fault.ClassFault.TheVariants.{NoMem
 
 use std::alloc::{AllocError, AllocFailed};
 use thiserror::Error;
-use wf_base::Why;
+use wf_bytes::Why;
 
 /// Why a file gives no class.
 #[derive(Debug, Drop, Error)]

@@ -9,8 +9,8 @@ mod pool;
 
 pub use entries::are_text_bytes;
 pub use fault::ClassFault;
-pub use items::{run, u1, u2, u4, u8};
-pub use places::{class_at, is_sound, method_at, text_at};
+pub use items::{run, text, u1, u2, u4, u8};
+pub use places::{class_at, is_sound, method_at, text_at, text_of};
 pub use pool::read_pool;
 
 #[cfg(test)]

@@ -2,13 +2,26 @@
 
 ghost use Rattle.std.specs.Prelude.{◌≡◌, ◌&&◌, option_and_then, option_map, slice_get};
 ghost use Rattle.std.specs.Option.{option_copied};
-ghost use Rattle.wf_base.specs.ClassFile.{text_at, class_at, name_type_in, member_with, method_at, has_text, has_class, has_name_type, is_sound};
-ghost use Rattle.wf_base.specs.Members.{named_by};
-ghost use Rattle.wf_base.specs.Reading.{wrong_in};
+ghost use Rattle.wf_data.specs.Pool.{text_at, class_at, name_type_in, member_with, method_at, has_text, has_class, has_name_type};
+ghost use Rattle.wf_grammar.specs.ClassFile.{is_sound};
+ghost use Rattle.wf_names.specs.Members.{named_by};
+ghost use Rattle.wf_grammar.specs.Reading.{wrong_in};
 
-use wf_base::{MemberRef, PoolEntry};
+use wf_base::Text;
+use wf_data::PoolEntry;
+use wf_names::MemberRef;
 
-/// The text at a place.
+/// The text that the pool has at a place.
+pub fn text_of(pool: &[PoolEntry], place: u16) -> Option<&Text>
+    ensures { option_copied result ≡ text_at pool.now place }
+{
+    match pool.get(place as usize)? {
+        PoolEntry::Utf8(text) => Some(text),
+        _ => None,
+    }
+}
+
+/// The bytes of the text at a place.
 pub fn text_at(pool: &[PoolEntry], place: u16) -> Option<&[u8]>
     ensures { option_copied result ≡ text_at pool.now place }
 {

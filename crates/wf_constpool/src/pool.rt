@@ -2,21 +2,25 @@
 
 ghost use Rattle.std.specs.Prelude.{◌≡◌, ◌+◌, ◌<◌, ◌^◌, ◌∷◌, true, IfOk, IfErr, OnOk};
 ghost use Rattle.std.specs.List.{list_all};
-ghost use Rattle.wf_base.specs.declared.class_info.PoolEntry.TheVariants.{Unusable};
-ghost use Rattle.wf_base.specs.declared.fault.Why.TheVariants as why;
-ghost use Rattle.wf_base.specs.ClassFile.{PoolIs, is_sound};
-ghost use Rattle.wf_base.specs.Exactness.{Took};
-ghost use Rattle.wf_base.specs.Grammar.{IsBytes};
-ghost use Rattle.wf_base.specs.Reading.{wanted, pool_entries, pool_at, size_of, wrong_from};
+ghost use Rattle.wf_data.specs.declared.class_info.PoolEntry.TheVariants.{Unusable};
+ghost use Rattle.wf_bytes.specs.declared.fault.Why.TheVariants as why;
+ghost use Rattle.wf_grammar.specs.ClassFile.{PoolIs, is_sound};
+ghost use Rattle.wf_bytes.specs.Exactness.{Took};
+ghost use Rattle.wf_base.specs.Bytes.{IsBytes};
+ghost use Rattle.wf_bytes.specs.Reading.{wanted};
+ghost use Rattle.wf_grammar.specs.Reading.{pool_entries, pool_at, size_of, wrong_from};
 ghost use Rattle.wf_constpool.specs.Readers.{Fails, Gives, GivesAs};
-ghost use Rattle.wf_constpool.specs.Sizes.{sizes};
+ghost use Rattle.wf_constpool.specs.Sizes.{sizes, constants};
 
 use crate::entries::places;
 use crate::fault::ClassFault;
 use crate::items::u2;
 use crate::places::{is_sound, wrong_in};
 use std::alloc::Global;
-use wf_base::{Cursor, Items, PoolEntry, Why, pools_are_read_exactly};
+use wf_base::Items;
+use wf_bytes::{Cursor, Why};
+use wf_data::PoolEntry;
+use wf_grammar::pools_are_read_exactly;
 
 /// How many bytes a constant takes in a file.
 fn size_of(entry: &PoolEntry) -> u32
@@ -55,14 +59,15 @@ fn wrong_from(pool: &[PoolEntry], start: u32) -> u32
     place
 }
 
-/// The constants of the places from 1 on.
-#[tactic(auto, unfolding(wf_base::specs::Reading::pool_entries))]
+/// Place 0, which is unusable, and the constants of the places from 1 on.
+#[tactic(auto, unfolding(wf_grammar::specs::Reading::pool_entries))]
 fn pool_entries(
     alloc: Global,
     cursor: &mut Cursor<'_>,
     count: u16,
 ) -> Result<Vec<PoolEntry>, ClassFault>
-    ensures entries { GivesAs (λ v. v.items) cursor.new result (pool_entries count cursor.old) }
+    ensures entries { GivesAs (λ v. constants v.items) cursor.new result (pool_entries count cursor.old) }
+    ensures first { IfOk result (λ v. v.items ≡ Unusable ∷ constants v.items) }
     ensures size { IfOk result (λ v. cursor.new.at ≡ cursor.old.at + sizes v.items) }
 {
     let mut left = count;
@@ -73,25 +78,24 @@ fn pool_entries(
     }
 }
 
-/// The pool of these constants, which begin at a place in the file, if each is sound in it.
+/// The pool of these entries, of which the first constant begins at a place in the file, if each is sound in it.
 fn pool_of(entries: Vec<PoolEntry>, start: u32) -> Result<Items<PoolEntry>, ClassFault>
-    requires { start + sizes entries.items < 2 ^ 32 }
-    ensures pool { IfOk result (λ pool. pool ≡ Unusable ∷ entries.items) }
-    ensures sound { OnOk result (list_all (is_sound (Unusable ∷ entries.items)) entries.items ≡ true) }
-    ensures unsound { IfErr result (λ e. Fails e (wanted (list_all (is_sound (Unusable ∷ entries.items)) entries.items) (wrong_from (Unusable ∷ entries.items) start entries.items) why.Index)) }
+    requires first { entries.items ≡ Unusable ∷ constants entries.items }
+    requires fits { start + sizes entries.items < 2 ^ 32 }
+    ensures pool { IfOk result (λ pool. pool ≡ Unusable ∷ constants entries.items) }
+    ensures sound { OnOk result (list_all (is_sound (Unusable ∷ constants entries.items)) (constants entries.items) ≡ true) }
+    ensures unsound { IfErr result (λ e. Fails e (wanted (list_all (is_sound (Unusable ∷ constants entries.items)) (constants entries.items)) (wrong_from (Unusable ∷ constants entries.items) start (constants entries.items)) why.Index)) }
 {
-    let mut pool = entries;
-    pool.insert(0, PoolEntry::Unusable)?;
-    if !are_sound(&pool) {
+    if !are_sound(&entries) {
         return Err(ClassFault::Bad {
-            offset: wrong_from(&pool, start),
+            offset: wrong_from(&entries, start),
             why: Why::Index,
         });
     }
-    Ok(Items::from_vec(pool))
+    Ok(Items::from_vec(entries))
 }
 
-#[tactic(auto, using(crate::proofs::Loops::bind_fails), unfolding(wf_base::specs::Reading::pool_at))]
+#[tactic(auto, using(crate::proofs::Loops::bind_fails), unfolding(wf_grammar::specs::Reading::pool_at))]
 fn pool_at(alloc: Global, cursor: &mut Cursor<'_>) -> Result<Items<PoolEntry>, ClassFault>
     ensures { Gives cursor.new result (pool_at cursor.old) }
 {

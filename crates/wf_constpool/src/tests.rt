@@ -2,7 +2,9 @@ use super::*;
 use std::alloc::AllocError;
 use std::process::Abort;
 use std::test::Fail;
-use wf_base::{Cursor, Items, PoolEntry, Why};
+use wf_base::Items;
+use wf_bytes::{Cursor, Why};
+use wf_data::PoolEntry;
 
 /// A pool with each tag once: its constants stand at the places 1 to 18.
 const EACH: &[u8] = b"\

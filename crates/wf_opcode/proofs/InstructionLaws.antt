@@ -3,13 +3,13 @@ use Rattle.std.proofs.Common.{◌≡◌, ℕ, ◌+◌, ◌^◌, ◌<◌, ◌&&�
 use Rattle.std.specs.Prelude.{ℤ, int_le, nat_le, nat_lt}
 use Rattle.std.specs.Int.{w16, w32, cast_signed}
 use Rattle.std.proofs.lemmas.List.{append-nil, nil_from_length, length-append}
-use Rattle.wf_base.specs.declared.instr.Instr.{Instr}
-use Rattle.wf_base.specs.declared.instr.Placed.{Placed}
-use Rattle.wf_base.specs.declared.fault.Why.TheVariants as why
-use Rattle.wf_base.specs.Place.{Place, spot}
-use Rattle.wf_base.specs.Grammar.{IsBytes}
-use Rattle.wf_base.specs.Reading.{Fault}
-use Rattle.wf_base.proofs.Exact.{Exact, fits_behind, ok_is, exact_u1, exact_u2, exact_u4, exact_run, exact_is, exact_then, exact_where, exact_given, exact_choice, exact_many, exact_many_on}
+use Rattle.wf_data.specs.declared.instr.Instr.{Instr}
+use Rattle.wf_data.specs.declared.instr.Placed.{Placed}
+use Rattle.wf_bytes.specs.declared.fault.Why.TheVariants as why
+use Rattle.wf_bytes.specs.Place.{Place, spot}
+use Rattle.wf_base.specs.Bytes.{IsBytes}
+use Rattle.wf_bytes.specs.Reading.{Fault}
+use Rattle.wf_bytes.proofs.Exact.{Exact, fits_behind, ok_is, exact_u1, exact_u2, exact_u4, exact_run, exact_is, exact_then, exact_where, exact_given, exact_choice, exact_many, exact_many_on}
 use Rattle.wf_opcode.specs.declared.fault.Stop.TheVariants.{NoInstruction}
 use Rattle.wf_opcode.specs.declared.form.Form.{Form}
 use Rattle.wf_opcode.specs.declared.form.Form.TheVariants as form

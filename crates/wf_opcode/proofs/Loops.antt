@@ -1,8 +1,8 @@
 -- A loop that reads items ends at the first that fails.
 use Rattle.std.proofs.Common.{◌≡◌, ℕ, suc, ◌-◌, ◌+◌, ◌<◌, List, ◌∷◌, ◌++◌, Result, Ok, Err, subst, arith}
-use Rattle.wf_base.specs.Place.{Place}
-use Rattle.wf_base.specs.Reading.{Fault, Reader, ◌>>=◌, many, many_on}
-use Rattle.wf_base.proofs.Loops.{with_front, with_front_on}
+use Rattle.wf_bytes.specs.Place.{Place}
+use Rattle.wf_bytes.specs.Reading.{Fault, Reader, ◌>>=◌, many, many_on}
+use Rattle.wf_bytes.proofs.Loops.{with_front, with_front_on}
 use Rattle.wf_opcode.specs.declared.fault.Stop.{Stop}
 use Rattle.wf_opcode.specs.declared.fault.Stop.TheVariants.{NoInstruction, NoMemory}
 use Rattle.wf_opcode.specs.Readers.{Fails}

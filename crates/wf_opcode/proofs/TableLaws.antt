@@ -2,8 +2,8 @@
 use Rattle.std.proofs.Common.{◌≡◌, ℕ, zero, suc, ◌<◌, Bool, true, false, ◌&&◌, Option, Some, None, refl, sym, ap, subst, ◌∙◌, arith, inl, inr}
 use Rattle.std.specs.Prelude.{◌==◌, if◌then◌else◌}
 use Rattle.std.proofs.lemmas.Bool.{eqb-true, cases_lt}
-use Rattle.wf_base.specs.declared.fault.What.{What}
-use Rattle.wf_base.specs.declared.fault.What.TheVariants as what
+use Rattle.wf_data.specs.declared.what.What.{What}
+use Rattle.wf_data.specs.declared.what.What.TheVariants as what
 use Rattle.wf_opcode.specs.declared.form.Row.{Row}
 use Rattle.wf_opcode.specs.Table.{constant_row, load_row, store_row, arithmetic_row, control_row, object_row, row_of, refused_as}
 

@@ -2,10 +2,10 @@
 -- reads it. Where none is, it fails; which failure it is doesn't count.
 use Rattle.std.specs.Prelude.{ℕ, ◌^◌, ℤ, pos, ◌+ℤ◌, int_le, ◌&&◌, Ok, ◌==◌, nat_le, nat_lt, if◌then◌else◌}
 use Rattle.std.specs.Int.{w8, w16, w32, cast_signed}
-use Rattle.wf_base.specs.declared.instr.Case.{Case}
-use Rattle.wf_base.specs.declared.instr.Instr.{Instr}
-use Rattle.wf_base.specs.declared.fault.Why.TheVariants as why
-use Rattle.wf_base.specs.Reading.{Reader, ◌>>=◌, wanted, found, number, run, many, many_on}
+use Rattle.wf_data.specs.declared.instr.Case.{Case}
+use Rattle.wf_data.specs.declared.instr.Instr.{Instr}
+use Rattle.wf_bytes.specs.declared.fault.Why.TheVariants as why
+use Rattle.wf_bytes.specs.Reading.{Reader, ◌>>=◌, wanted, found, number, run, many, many_on}
 use Rattle.wf_opcode.specs.declared.form.Form.{Form}
 use Rattle.wf_opcode.specs.declared.form.Form.TheVariants as form
 use Rattle.wf_opcode.specs.declared.form.Row.{Row}

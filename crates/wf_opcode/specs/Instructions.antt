@@ -1,10 +1,10 @@
 -- The instructions that the bytes of a code are (JVMS 4.9.1, 6.5), in their long forms.
 use Rattle.std.specs.Prelude.{◌≡◌, ℕ, ◌+◌, ◌-◌, ◌%◌, ◌^◌, ◌<◌, ℤ, pos, negsuc, ◌+ℤ◌, ◌-ℤ◌, unsigned_abs, int_le, Bool, ◌&&◌, ◌||◌, List, [], ◌∷◌, ◌++◌, length, Option, Some, None, ◌==◌, nat_le, nat_lt, if◌then◌else◌}
 use Rattle.std.specs.Int.{w8, w16, w32, cast_signed}
-use Rattle.wf_base.specs.declared.instr.Case.{Case}
-use Rattle.wf_base.specs.declared.instr.Instr.{Instr}
-use Rattle.wf_base.specs.declared.instr.Placed.{Placed}
-use Rattle.wf_base.specs.Grammar.{U1, U2, U4, Run, Is, Then, Where, Given, Choice, Many, ManyOn}
+use Rattle.wf_data.specs.declared.instr.Case.{Case}
+use Rattle.wf_data.specs.declared.instr.Instr.{Instr}
+use Rattle.wf_data.specs.declared.instr.Placed.{Placed}
+use Rattle.wf_bytes.specs.Grammar.{U1, U2, U4, Run, Is, Then, Where, Given, Choice, Many, ManyOn}
 use Rattle.wf_opcode.specs.declared.form.Form.{Form}
 use Rattle.wf_opcode.specs.declared.form.Form.TheVariants as form
 use Rattle.wf_opcode.specs.declared.form.Row.{Row}

@@ -1,6 +1,6 @@
 -- What the readers of instructions give, against the functions that read lists (this project's own).
 use Rattle.std.specs.Prelude.{◌≡◌, Result, Ok, Err}
-use Rattle.wf_base.specs.Reading.{Fault}
+use Rattle.wf_bytes.specs.Reading.{Fault}
 use Rattle.wf_opcode.specs.declared.fault.Stop.{Stop}
 use Rattle.wf_opcode.specs.declared.fault.Stop.TheVariants as stop
 

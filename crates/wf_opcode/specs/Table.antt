@@ -1,8 +1,8 @@
 -- The table of the instructions (JVMS 6.5, 7): for each opcode what stands behind it, and the long form that it
 -- is written in. Opcodes above c9 have no row.
 use Rattle.std.specs.Prelude.{ℕ, ◌+◌, ◌-◌, ◌/◌, ◌%◌, ℤ, pos, ◌-ℤ◌, Bool, not, ◌&&◌, ◌||◌, Option, Some, None, ◌==◌, nat_le, nat_lt, option_and_then, if◌then◌else◌}
-use Rattle.wf_base.specs.declared.fault.What.{What}
-use Rattle.wf_base.specs.declared.fault.What.TheVariants as what
+use Rattle.wf_data.specs.declared.what.What.{What}
+use Rattle.wf_data.specs.declared.what.What.TheVariants as what
 use Rattle.wf_opcode.specs.declared.form.Form.{Form}
 use Rattle.wf_opcode.specs.declared.form.Form.TheVariants as form
 use Rattle.wf_opcode.specs.declared.form.Row.{Row}

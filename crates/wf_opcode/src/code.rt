@@ -1,11 +1,12 @@
 ghost use Rattle.std.specs.Prelude.{◌≡◌, ℕ, ◌+◌, ◌%◌, ◌<◌, ◌≤◌, List, length, IfOk, IfErr};
-ghost use Rattle.wf_base.specs.declared.instr.Placed.{Placed};
+ghost use Rattle.wf_data.specs.declared.instr.Placed.{Placed};
 ghost use Rattle.wf_opcode.specs.Instructions.{padding, Instructions, IsBadAt, IsFault};
 
 use crate::fault::{DecodeFault, Stop};
 use crate::reader::Reader;
 use std::alloc::Global;
-use wf_base::{Items, Placed};
+use wf_base::Items;
+use wf_data::Placed;
 
 /// A code is instructions in at most one way. It has at most one first place where none starts, and then it
 /// is no list of instructions.

@@ -4,7 +4,7 @@ ghost use Rattle.std.specs.Prelude.{◌≡◌, ℕ, ◌<◌, ◌≤◌, Some};
 ghost use Rattle.wf_opcode.specs.declared.form.Row.{Row};
 ghost use Rattle.wf_opcode.specs.Table.{plain, short, refused_row, float_if, is_float_kind, constant_row, load_row, store_row, arithmetic_row, control_row, object_row, row_of, refused_as};
 
-use wf_base::What;
+use wf_data::What;
 
 /// What stands behind an opcode.
 #[derive(Clone, Copy, Debug, PartialEq, Eq)]

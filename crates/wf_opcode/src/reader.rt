@@ -2,8 +2,8 @@
 
 ghost use Rattle.std.specs.Prelude.{◌≡◌, ℕ, ◌^◌, ◌<◌, ◌==◌, pos, ◌+ℤ◌, ◌≤ℤ◌, length};
 ghost use Rattle.std.specs.Int.{w8, w16, w32, cast_signed};
-ghost use Rattle.wf_base.specs.Place.{spot};
-ghost use Rattle.wf_base.specs.Reading.{number, run, many, many_on};
+ghost use Rattle.wf_bytes.specs.Place.{spot};
+ghost use Rattle.wf_bytes.specs.Reading.{number, run, many, many_on};
 ghost use Rattle.wf_opcode.specs.Decoding.{target, table_case, lookup_case, table_switch, lookup_switch, wide_iinc, wide_local, wide, jump2, jump4, iinc, invoke, new_array, multi_array, operands, instruction};
 ghost use Rattle.wf_opcode.specs.Instructions.{target_of, padding, is_widened, entries, instr_of, switch_of};
 ghost use Rattle.wf_opcode.specs.Readers.{Gives, GivesAs};
@@ -11,7 +11,9 @@ ghost use Rattle.wf_opcode.specs.Readers.{Gives, GivesAs};
 use crate::fault::Stop;
 use crate::form::{Form, Row, row_of};
 use std::alloc::Global;
-use wf_base::{Case, Cursor, Instr, Items};
+use wf_base::Items;
+use wf_bytes::Cursor;
+use wf_data::{Case, Instr};
 
 /// A reader of the instructions of a code, from the first to the last. Where none is, it may stand anywhere.
 #[derive(Debug, Drop)]
@@ -74,21 +76,21 @@ impl<'a> Reader<'a> {
         }
     }
 
-    #[tactic(auto, unfolding(wf_base::specs::Reading::number))]
+    #[tactic(auto, unfolding(wf_bytes::specs::Reading::number))]
     fn u1(&mut self) -> Result<u8, Stop>
         ensures { Gives self.new.cursor result (number w8 self.old.cursor) }
     {
         self.cursor.u1().ok_or(Stop::NoInstruction)
     }
 
-    #[tactic(auto, unfolding(wf_base::specs::Reading::number))]
+    #[tactic(auto, unfolding(wf_bytes::specs::Reading::number))]
     fn u2(&mut self) -> Result<u16, Stop>
         ensures { Gives self.new.cursor result (number w16 self.old.cursor) }
     {
         self.cursor.u2().ok_or(Stop::NoInstruction)
     }
 
-    #[tactic(auto, unfolding(wf_base::specs::Reading::number))]
+    #[tactic(auto, unfolding(wf_bytes::specs::Reading::number))]
     fn u4(&mut self) -> Result<u32, Stop>
         ensures { Gives self.new.cursor result (number w32 self.old.cursor) }
     {
@@ -96,7 +98,7 @@ impl<'a> Reader<'a> {
     }
 
     /// The next n bytes, where they are.
-    #[tactic(auto, unfolding(wf_base::specs::Reading::run))]
+    #[tactic(auto, unfolding(wf_bytes::specs::Reading::run))]
     fn run(&mut self, n: u32) -> Result<&'a [u8], Stop>
         ensures { GivesAs (λ bytes. bytes.now) self.new.cursor result (run n self.old.cursor) }
     {
@@ -220,7 +222,7 @@ impl<'a> Reader<'a> {
     }
 
     /// The entries of a tableswitch. Each is read before there is memory for it.
-    #[tactic(auto, using(wf_base::proofs::Loops::goes_on_on, crate::proofs::Loops::ends_on, wf_base::proofs::Loops::is_done_on))]
+    #[tactic(auto, using(wf_bytes::proofs::Loops::goes_on_on, crate::proofs::Loops::ends_on, wf_bytes::proofs::Loops::is_done_on))]
     fn table_cases(&mut self, pc: u16, low: i32, high: i32) -> Result<Vec<Case>, Stop>
         requires { low ≤ℤ high }
         ensures { GivesAs (λ cases. (cases.items, low +ℤ pos (entries low high))) self.new.cursor result (many_on (table_case pc) (entries low high) low self.old.cursor) }
@@ -262,7 +264,7 @@ impl<'a> Reader<'a> {
     }
 
     /// The pairs of a lookupswitch. Each is read before there is memory for it.
-    #[tactic(auto, using(wf_base::proofs::Loops::goes_on, crate::proofs::Loops::ends, wf_base::proofs::Loops::is_done))]
+    #[tactic(auto, using(wf_bytes::proofs::Loops::goes_on, crate::proofs::Loops::ends, wf_bytes::proofs::Loops::is_done))]
     fn lookup_cases(&mut self, pc: u16, count: u32) -> Result<Vec<Case>, Stop>
         ensures { GivesAs (λ cases. cases.items) self.new.cursor result (many (lookup_case pc) count self.old.cursor) }
     {

@@ -2,7 +2,7 @@ use super::*;
 use std::alloc::{AllocError, Global};
 use std::process::Abort;
 use std::test::Fail;
-use wf_base::{Case, What};
+use wf_data::{Case, What};
 
 mod table;
 

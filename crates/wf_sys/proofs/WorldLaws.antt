@@ -1,10 +1,10 @@
 -- Assignments that agree at each node have one world.
 use Rattle.std.proofs.Common.{◌≡◌, ℕ, List, sym, subst}
 use Rattle.std.specs.declared.cmp.Ordering.{Ordering}
-use Rattle.wf_base.specs.declared.class_info.ClassInfo.{ClassInfo}
-use Rattle.wf_base.specs.declared.member.MemberName.{MemberName}
-use Rattle.wf_base.specs.declared.world.Unresolved.{Unresolved}
-use Rattle.wf_base.specs.declared.world.World.{World}
+use Rattle.wf_data.specs.declared.class_info.ClassInfo.{ClassInfo}
+use Rattle.wf_names.specs.declared.member.MemberName.{MemberName}
+use Rattle.wf_names.specs.declared.world.Unresolved.{Unresolved}
+use Rattle.wf_names.specs.declared.world.World.{World}
 use Rattle.wf_sys.specs.declared.flow.Flow.{Flow}
 use Rattle.wf_sys.specs.Values.{IsNonEmpty, HoldsType}
 use Rattle.wf_sys.specs.Names.{Lists, name_cmp, member_cmp, place_cmp}

@@ -4,12 +4,12 @@ use Rattle.std.specs.declared.cmp.Ordering.{Ordering}
 use Rattle.std.specs.Ordering.{nat_cmp, ordering_then}
 use Rattle.std.specs.Cmp.Lexicographic.{slice_cmp}
 use Rattle.std.specs.List.Sorted.{IsStrictlySortedBy}
-use Rattle.wf_base.specs.declared.class_info.ClassInfo.{ClassInfo}
-use Rattle.wf_base.specs.declared.class_info.FieldInfo.{FieldInfo}
-use Rattle.wf_base.specs.declared.class_info.MethodInfo.{MethodInfo}
-use Rattle.wf_base.specs.declared.member.MemberName.{MemberName}
-use Rattle.wf_base.specs.declared.world.Unresolved.{Unresolved}
-use Rattle.wf_base.specs.NameForm.{member_of}
+use Rattle.wf_data.specs.declared.class_info.ClassInfo.{ClassInfo}
+use Rattle.wf_data.specs.declared.class_info.FieldInfo.{FieldInfo}
+use Rattle.wf_data.specs.declared.class_info.MethodInfo.{MethodInfo}
+use Rattle.wf_names.specs.declared.member.MemberName.{MemberName}
+use Rattle.wf_names.specs.declared.world.Unresolved.{Unresolved}
+use Rattle.wf_names.specs.NameForm.{member_of}
 
 -- a method's name, and a field's
 abbrev pub method_name : ClassInfo → MethodInfo → MemberName

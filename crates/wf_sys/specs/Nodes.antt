@@ -1,6 +1,6 @@
 -- The nodes of a program's flow system, by name. Classes and members are named by the bytes of their names.
 use Rattle.std.specs.Prelude.{ℕ, List}
-use Rattle.wf_base.specs.declared.member.MemberName.{MemberName}
+use Rattle.wf_names.specs.declared.member.MemberName.{MemberName}
 
 pub data Node : Type 0 where
   -- the types that are instantiated

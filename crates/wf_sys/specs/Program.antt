@@ -1,12 +1,13 @@
 -- The flow system of a program, a row for each case (this project's own, after SkipFlow, CGO 2025). A
 -- program is the list of its classes.
 use Rattle.std.specs.Prelude.{◌≡◌, ◌≤◌, ℕ, ◌+◌, ◌-◌, ◌*◌, ℤ, pos, ◌-ℤ◌, true, false, List, [], ◌∷◌, ◌++◌, length, Contains, Option, Some, slice_get, option_and_then, option_map, codes}
-use Rattle.wf_base.specs.declared.class_info.ClassInfo.{ClassInfo}
-use Rattle.wf_base.specs.declared.class_info.CodeInfo.{CodeInfo}
-use Rattle.wf_base.specs.declared.class_info.MethodInfo.{MethodInfo}
-use Rattle.wf_base.specs.declared.class_info.PoolEntry.{PoolEntry}
-use Rattle.wf_base.specs.declared.member.MemberName.{MemberName}
-use Rattle.wf_base.specs.ClassFile.{is_interface, is_static, method_at}
+use Rattle.wf_data.specs.declared.class_info.ClassInfo.{ClassInfo}
+use Rattle.wf_data.specs.declared.class_info.CodeInfo.{CodeInfo}
+use Rattle.wf_data.specs.declared.class_info.MethodInfo.{MethodInfo}
+use Rattle.wf_data.specs.declared.class_info.PoolEntry.{PoolEntry}
+use Rattle.wf_names.specs.declared.member.MemberName.{MemberName}
+use Rattle.wf_data.specs.Flags.{is_interface, is_static}
+use Rattle.wf_data.specs.Pool.{method_at}
 use Rattle.wf_sys.specs.declared.flow.Flow.{Flow}
 use Rattle.wf_sys.specs.declared.flow.Flow.TheVariants.{Set}
 use Rattle.wf_sys.specs.declared.inequality.Guard.TheVariants.{NonEmpty}

@@ -1,9 +1,9 @@
 -- The world of a solution.
 use Rattle.std.specs.Prelude.{List}
-use Rattle.wf_base.specs.declared.class_info.ClassInfo.{ClassInfo}
-use Rattle.wf_base.specs.declared.member.MemberName.{MemberName}
-use Rattle.wf_base.specs.declared.world.Unresolved.{Unresolved}
-use Rattle.wf_base.specs.declared.world.World.{World}
+use Rattle.wf_data.specs.declared.class_info.ClassInfo.{ClassInfo}
+use Rattle.wf_names.specs.declared.member.MemberName.{MemberName}
+use Rattle.wf_names.specs.declared.world.Unresolved.{Unresolved}
+use Rattle.wf_names.specs.declared.world.World.{World}
 use Rattle.wf_sys.specs.declared.flow.Flow.{Flow}
 use Rattle.wf_sys.specs.Values.{IsNonEmpty, HoldsType}
 use Rattle.wf_sys.specs.System.{Least}

@@ -1,6 +1,6 @@
 ghost use Rattle.std.specs.Prelude.{◌≡◌, ◌↔◌, ℕ, false, List, Contains, IsTrue};
-ghost use Rattle.wf_base.specs.declared.class_info.ClassInfo.{ClassInfo};
-ghost use Rattle.wf_base.specs.declared.member.MemberName.{MemberName};
+ghost use Rattle.wf_data.specs.declared.class_info.ClassInfo.{ClassInfo};
+ghost use Rattle.wf_names.specs.declared.member.MemberName.{MemberName};
 ghost use Rattle.wf_sys.specs.declared.flow.Flow.{Flow};
 ghost use Rattle.wf_sys.specs.declared.inequality.Guard.{Guard};
 ghost use Rattle.wf_sys.specs.declared.inequality.Inequality.{Inequality};
@@ -11,7 +11,7 @@ ghost use Rattle.wf_sys.specs.Assignments.{IsSeedOf};
 ghost use Rattle.wf_sys.specs.Nodes.{Node};
 ghost use Rattle.wf_sys.specs.Program.{Row, Seed};
 ghost use Rattle.wf_sys.specs.WorldOf.{IsWorldOf};
-ghost use Rattle.wf_base.specs.declared.world.World.{World};
+ghost use Rattle.wf_names.specs.declared.world.World.{World};
 
 /// Values are partially ordered.
 pub fn values_are_ordered()

@@ -1,7 +1,7 @@
 //! The instructions, each once: its bytes at the place 0, its long form's opcode, what the long form holds as
 //! `a` and `b`, and as what its opcode alone is refused.
 
-use wf_base::What;
+use wf_data::What;
 
 /// A row of the table.
 pub type Listed = (&'static [u8], u8, i32, i32, Option<What>);

@@ -1,5 +1,5 @@
 use Rattle.std.proofs.Common.{◌≡◌, ◌+◌, drop}
-use Rattle.wf_base.specs.Reading.{bad_byte_from}
+use Rattle.wf_grammar.specs.Reading.{bad_byte_from}
 use Rattle.wf_constpool.proofs.entries.bad_byte_from.Given as goal
 
 abbrev pub invariant-loop-byte : goal.invariant-loop-byte

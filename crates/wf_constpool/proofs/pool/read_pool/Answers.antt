@@ -1,10 +1,10 @@
 use Rattle.std.proofs.Common.{◌≡◌, List, Result, Ok, Err}
 use Rattle.std.specs.Prelude.{IfOk}
-use Rattle.wf_base.specs.declared.class_info.PoolEntry.{PoolEntry}
-use Rattle.wf_base.specs.ClassFile.{PoolIs}
-use Rattle.wf_base.specs.Exactness.{Took}
-use Rattle.wf_base.specs.Place.{Place}
-use Rattle.wf_base.specs.Reading.{pool_at}
+use Rattle.wf_data.specs.declared.class_info.PoolEntry.{PoolEntry}
+use Rattle.wf_grammar.specs.ClassFile.{PoolIs}
+use Rattle.wf_bytes.specs.Exactness.{Took}
+use Rattle.wf_bytes.specs.Place.{Place}
+use Rattle.wf_grammar.specs.Reading.{pool_at}
 use Rattle.wf_constpool.specs.declared.fault.ClassFault.{ClassFault}
 use Rattle.wf_constpool.specs.Readers.{Gives}
 use Rattle.wf_constpool.proofs.pool.read_pool.Goals as goal

@@ -1,5 +1,5 @@
 use Rattle.std.proofs.Common.{◌≡◌, ◌+◌, drop}
-use Rattle.wf_base.specs.Reading.{wrong_from}
+use Rattle.wf_grammar.specs.Reading.{wrong_from}
 use Rattle.wf_constpool.specs.Sizes.{sizes}
 use Rattle.wf_constpool.proofs.pool.wrong_from.Given as goal
 

@@ -1,5 +1,5 @@
 use Rattle.std.proofs.Common.{◌<◌, length, arith, rules}
-use Rattle.wf_base.specs.Grammar.{IsBytes}
+use Rattle.wf_base.specs.Bytes.{IsBytes}
 use Rattle.wf_opcode.proofs.InstructionLaws.{begins, stops, gets_smaller}
 use Rattle.wf_opcode.proofs.code.decode.Goals as goal
 

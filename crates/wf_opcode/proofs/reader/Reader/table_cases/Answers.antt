@@ -6,7 +6,7 @@ use Rattle.std.proofs.lemmas.Int.{to_z-of_z, ints}
 use Rattle.std.proofs.lemmas.Grind.{common_steps}
 use Rattle.wf_opcode.specs.Decoding.{table_case}
 use Rattle.wf_opcode.specs.Instructions.{entries}
-use Rattle.wf_base.proofs.Loops.{is_done_on, goes_on_on}
+use Rattle.wf_bytes.proofs.Loops.{is_done_on, goes_on_on}
 use Rattle.wf_opcode.proofs.Loops.{ends_on}
 use Rattle.wf_opcode.proofs.reader.Reader.table_cases.Goals as goal
 

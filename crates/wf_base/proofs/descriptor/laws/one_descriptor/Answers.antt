@@ -1,8 +1,0 @@
-use Rattle.wf_base.proofs.DescriptorValues.{one_field, one_method}
-use Rattle.wf_base.proofs.descriptor.laws.one_descriptor.Goals as goal
-
-pub returns-clause-field : goal.returns-clause-field
-returns-clause-field c = one_field
-
-pub returns-clause-method : goal.returns-clause-method
-returns-clause-method c = one_method

@@ -1,7 +1,0 @@
-use Rattle.std.proofs.Common.{sym, ◌∙◌}
-use Rattle.wf_base.proofs.Exact.{ok_is}
-use Rattle.wf_base.proofs.ClassLaws.{spelled_is_read}
-use Rattle.wf_base.proofs.grammar.one_class_a_file.Goals as goal
-
-pub returns : goal.returns
-returns c = λ bytes a b one two. ok_is a b (sym (spelled_is_read bytes a one) ∙ spelled_is_read bytes b two)

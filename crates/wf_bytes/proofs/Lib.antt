@@ -1,0 +1,4 @@
+pub mod Loops
+pub mod Exact
+pub mod Steady
+pub mod Sources

@@ -1,0 +1,5 @@
+pub mod Cutting
+pub mod DecimalLaws
+pub mod Digits
+pub mod MemberLaws
+pub mod WordLaws

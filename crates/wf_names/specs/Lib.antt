@@ -1,0 +1,5 @@
+pub mod Limits
+pub mod Members
+pub mod NameForm
+pub mod Names
+pub mod Words
