@@ -1,3 +1,4 @@
+pub mod CodeLaws
 pub mod Lists
 pub mod WriteLoops
 pub mod MemberLaws

@@ -1,14 +1,17 @@
 -- Members that were met are told apart by the numbers of their texts.
 use Rattle.std.proofs.Common.{◌≡◌, ℕ, Bool, true, false, ◌==◌, cond, List, [], ◌∷◌, ◌++◌, map, Option, Some, refl, sym, ap, subst, ◌∙◌}
-use Rattle.std.specs.Prelude.{unwrap_or}
+use Rattle.std.specs.Prelude.{unwrap_or, IfSome}
 use Rattle.std.specs.Cmp.{both_ways}
 use Rattle.std.specs.List.{list_any}
 use Rattle.std.specs.Str.{bytes_eq}
 use Rattle.std.proofs.lemmas.Bool.Decides.{Decides-eqb}
+use Rattle.std.proofs.lemmas.List.{map-append}
 use Rattle.std.proofs.lemmas.Option.{same_Some}
 use Rattle.std.proofs.lemmas.Slice.Eq.{bytes_eq-Decides}
-use Rattle.wf_base.specs.declared.class_info.PoolEntry.{PoolEntry}
-use Rattle.wf_base.specs.ClassFile.{text_at, is_key}
+use Rattle.wf_data.specs.declared.class_info.PoolEntry.{PoolEntry}
+use Rattle.wf_data.specs.Pool.{text_at}
+use Rattle.wf_grammar.specs.ClassFile.{is_key}
+use Rattle.wf_classfile.specs.declared.texts.Seen.{Seen}
 use Rattle.wf_classfile.specs.InOrder.{same_pair}
 use Rattle.wf_classfile.specs.Met.{key_of, AreNumbersOf, AreNumbers}
 use Rattle.wf_classfile.specs.Numbers.{number_in, text_there, Grows, Stand}
@@ -51,5 +54,21 @@ met_by_number pool numbers name desc m n (p ∷ met) stand first second h =
 own_number : (pool : List PoolEntry) (numbers : List (List ℕ × ℕ)) (text : List ℕ) (n : ℕ) → Stand pool numbers → number_in numbers text ≡ Some n → number_in numbers (text_there pool n) ≡ Some n
 own_number pool numbers text n stand h = ap (number_in numbers) (there pool n text (stand.stands text n h)) ∙ h
 
-pub are_numbers : (pool then after : List PoolEntry) (numbers : List (List ℕ × ℕ)) (name desc m n : ℕ) → then ≡ pool → after ≡ then → Stand after numbers → number_in numbers (text_there pool name) ≡ Some m → number_in numbers (text_there then desc) ≡ Some n → AreNumbersOf after numbers (m, n)
-are_numbers pool then after numbers name desc m n a b stand first second = record { name = own_number after numbers (text_there pool name) m stand first; desc = own_number after numbers (text_there then desc) n stand second }
+pub are_numbers : (pool : List PoolEntry) (numbers : List (List ℕ × ℕ)) (name desc : List ℕ) (m n : ℕ) → Stand pool numbers → number_in numbers name ≡ Some m → number_in numbers desc ≡ Some n → AreNumbersOf pool numbers (m, n)
+are_numbers pool numbers name desc m n stand first second = record { name = own_number pool numbers name m stand first; desc = own_number pool numbers desc n stand second }
+
+-- the key that two numbers stand for
+pub own_key : (pool : List PoolEntry) (numbers : List (List ℕ × ℕ)) (name desc : List ℕ) (m n : ℕ) → Stand pool numbers → number_in numbers name ≡ Some m → number_in numbers desc ≡ Some n → key_of pool (m, n) ≡ (name, desc)
+own_key pool numbers name desc m n stand first second =
+    let one = there pool m name (stand.stands name m first) in
+    let other = there pool n desc (stand.stands desc n second) in
+    rw (one, other) refl
+
+pub keys_after : (pool : List PoolEntry) (met after : List (ℕ × ℕ)) (p : ℕ × ℕ) (key : List ℕ × List ℕ) (new : Bool) → after ≡ cond new (met ++ p ∷ []) met → key_of pool p ≡ key
+    → map (key_of pool) after ≡ cond new (map (key_of pool) met ++ key ∷ []) (map (key_of pool) met)
+keys_after pool met after p key true e is = ap (λ (ps : List (ℕ × ℕ)). map (key_of pool) ps) e ∙ map-append (key_of pool) met (p ∷ []) ∙ ap (λ (k : List ℕ × List ℕ). map (key_of pool) met ++ k ∷ []) is
+keys_after pool met after p key false e is = ap (λ (ps : List (ℕ × ℕ)). map (key_of pool) ps) e
+
+-- a text that was found has its number
+pub numbered : (numbers : List (List ℕ × ℕ)) (found : Option Seen) (s : Seen) → found ≡ Some s → IfSome found (λ s. number_in numbers s.known ≡ Some s.number) → number_in numbers s.known ≡ Some s.number
+numbered numbers found s e h = subst (λ (o : Option Seen). IfSome o (λ s. number_in numbers s.known ≡ Some s.number)) e h

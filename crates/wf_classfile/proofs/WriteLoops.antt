@@ -1,12 +1,12 @@
 -- Writing items one after the other, as a loop does.
 use Rattle.std.proofs.Common.{◌≡◌, ℕ, ◌+◌, ◌≤◌, ◌<◌, Bool, true, false, not, ◌&&◌, List, [], ◌∷◌, ◌++◌, Option, Some, None, get_or, length, drop, refl, sym, ap, subst, ◌∙◌}
 use Rattle.std.proofs.lemmas.List.{at_drop_more, at_drop_all}
-use Rattle.wf_base.specs.declared.class_info.FieldInfo.{FieldInfo}
-use Rattle.wf_base.specs.declared.class_info.Handler.{Handler}
-use Rattle.wf_base.specs.declared.class_info.MethodInfo.{MethodInfo}
-use Rattle.wf_base.specs.declared.class_info.PoolEntry.{PoolEntry}
-use Rattle.wf_base.specs.ClassFile.{Key}
-use Rattle.wf_base.specs.Writing.{Writer, ◌>>=◌, asked, class_place, put_place, is_wide, put_pool_place, put_places, put_field, put_fields, put_handler, put_handlers, put_method, put_methods, put_interfaces}
+use Rattle.wf_data.specs.declared.class_info.FieldInfo.{FieldInfo}
+use Rattle.wf_data.specs.declared.class_info.Handler.{Handler}
+use Rattle.wf_data.specs.declared.class_info.MethodInfo.{MethodInfo}
+use Rattle.wf_data.specs.declared.class_info.PoolEntry.{PoolEntry}
+use Rattle.wf_grammar.specs.ClassFile.{Key}
+use Rattle.wf_grammar.specs.Writing.{Writer, ◌>>=◌, asked, class_place, put_place, is_wide, put_pool_place, put_places, put_field, put_fields, put_handler, put_handlers, put_method, put_methods, put_interfaces}
 use Rattle.wf_classfile.specs.declared.fault.SpellFault.{SpellFault}
 use Rattle.wf_classfile.specs.declared.fault.SpellFault.TheVariants.{NotSpellable, NoMemory}
 use Rattle.wf_classfile.specs.Writers.{Fails}

@@ -1,7 +1,7 @@
 -- What is asked of the texts of a pool.
 use Rattle.std.specs.Prelude.{◌≡◌, ℕ, Bool, List}
-use Rattle.wf_base.specs.Descriptors.{is_field_descriptor, is_method_descriptor}
-use Rattle.wf_base.specs.Names.{is_field_name, is_method_name}
+use Rattle.wf_descriptor.specs.Descriptors.{is_field_descriptor, is_method_descriptor}
+use Rattle.wf_names.specs.Names.{is_field_name, is_method_name}
 
 -- the answers for a text, the last two of them of methods with a receiver and without
 pub record IsAnswered (text : List ℕ) (field_name method_name field instance static : Bool) : Type 0 where

@@ -1,3 +1,4 @@
+pub mod OnlyCode
 pub mod Writers
 pub mod Answers
 pub mod InOrder

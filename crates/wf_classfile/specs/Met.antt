@@ -1,12 +1,13 @@
 -- The members that were met.
 use Rattle.std.specs.Prelude.{◌≡◌, ℕ, List, [], ◌∷◌, Some}
-use Rattle.wf_base.specs.declared.class_info.PoolEntry.{PoolEntry}
-use Rattle.wf_base.specs.ClassFile.{Key}
+use Rattle.wf_data.specs.declared.class_info.PoolEntry.{PoolEntry}
+use Rattle.wf_grammar.specs.ClassFile.{Key}
 use Rattle.wf_classfile.specs.Numbers.{number_in, text_there}
 
--- the members of a pool that were met, in their order
+-- the members of a pool that were met, in their order, and the numbers that its texts have so far
 pub record Met : Type 0 where
   pub pool : List PoolEntry
+  pub numbers : List (List ℕ × ℕ)
   pub met : List Key
 
 -- the name and the descriptor that stand at two places

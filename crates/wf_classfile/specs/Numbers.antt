@@ -4,8 +4,8 @@ use Rattle.std.specs.Cmp.Lexicographic.{slice_cmp}
 use Rattle.std.specs.Ordering.{nat_cmp}
 use Rattle.std.specs.BTreeMap.{is_at}
 use Rattle.std.specs.Map.{lookup}
-use Rattle.wf_base.specs.declared.class_info.PoolEntry.{PoolEntry}
-use Rattle.wf_base.specs.ClassFile.{text_at}
+use Rattle.wf_data.specs.declared.class_info.PoolEntry.{PoolEntry}
+use Rattle.wf_data.specs.Pool.{text_at}
 
 -- a pool, and the numbers that texts have so far
 pub record Numbered : Type 0 where

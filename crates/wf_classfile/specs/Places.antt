@@ -3,8 +3,8 @@ use Rattle.std.specs.Prelude.{◌≡◌, ℕ, List, Option, Some, None}
 use Rattle.std.specs.Ordering.{nat_cmp}
 use Rattle.std.specs.BTreeMap as tree
 use Rattle.std.specs.BTreeMap.{BTreeMap}
-use Rattle.wf_base.specs.declared.class_info.PoolEntry.{PoolEntry}
-use Rattle.wf_base.specs.ClassFile.{text_at}
+use Rattle.wf_data.specs.declared.class_info.PoolEntry.{PoolEntry}
+use Rattle.wf_data.specs.Pool.{text_at}
 use Rattle.wf_classfile.specs.declared.texts.Seen.{Seen}
 use Rattle.wf_classfile.specs.Numbers.{number_in}
 

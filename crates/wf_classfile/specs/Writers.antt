@@ -1,7 +1,7 @@
 -- What the writers of classes give, against the functions that write lists (this project's own).
 use Rattle.std.specs.Prelude.{◌≡◌, ℕ, ◌^◌, ◌≤◌, List, length, Option, Some, None, Result, Ok, Err}
-use Rattle.wf_base.specs.declared.class_info.ClassInfo.{ClassInfo}
-use Rattle.wf_base.specs.Writing.{spelling}
+use Rattle.wf_data.specs.declared.class_info.ClassInfo.{ClassInfo}
+use Rattle.wf_grammar.specs.Writing.{spelling}
 use Rattle.wf_classfile.specs.declared.fault.SpellFault.{SpellFault}
 use Rattle.wf_classfile.specs.declared.fault.SpellFault.TheVariants.{NotSpellable, NoMemory}
 

@@ -1,9 +1,9 @@
 //! Which constants fields may have (JVMS table 4.7.2-A).
 
 ghost use Rattle.std.specs.Prelude.{◌≡◌};
-ghost use Rattle.wf_base.specs.ClassFile.{is_int_type, is_constant_of, has_constant_of};
+ghost use Rattle.wf_grammar.specs.ClassFile.{is_int_type, is_constant_of, has_constant_of};
 
-use wf_base::PoolEntry;
+use wf_data::PoolEntry;
 
 /// Whether the values of a type are ints.
 fn is_int_type(desc: &[u8]) -> bool

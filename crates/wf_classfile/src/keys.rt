@@ -1,6 +1,6 @@
 ghost use Rattle.std.specs.Prelude.{◌≡◌, ◌++◌, ◌∷◌, [], not, OnOk, IfOk, if◌then◌else◌};
 ghost use Rattle.std.specs.List.{list_any};
-ghost use Rattle.wf_base.specs.ClassFile.{is_key};
+ghost use Rattle.wf_grammar.specs.ClassFile.{is_key};
 
 use indexmap::IndexSet;
 use std::alloc::{AllocError, Global};
@@ -14,7 +14,7 @@ pub struct Keys<'p> {
 
 impl<'p> Model for Keys<'p> {
     ghost use Rattle.std.specs.Prelude.{List, map};
-    ghost use Rattle.wf_base.specs.ClassFile.{Key};
+    ghost use Rattle.wf_grammar.specs.ClassFile.{Key};
 
     ghost Value = { List Key };
 

@@ -1,13 +1,14 @@
 ghost use Rattle.std.specs.Prelude.{◌≡◌};
-ghost use Rattle.wf_base.specs.ClassFile.{parameter_slots};
-ghost use Rattle.wf_base.specs.Descriptors.{is_field_descriptor, is_method_descriptor};
-ghost use Rattle.wf_base.specs.Names.{is_field_name, is_method_name};
+ghost use Rattle.wf_grammar.specs.ClassFile.{parameter_slots};
+ghost use Rattle.wf_descriptor.specs.Descriptors.{is_field_descriptor, is_method_descriptor};
+ghost use Rattle.wf_names.specs.Names.{is_field_name, is_method_name};
 
 use std::alloc::AllocError;
 use std::marker::Model;
-use wf_base::{
-    Text, is_field_descriptor, is_field_name, is_method_descriptor, is_method_name, is_static,
-};
+use wf_base::Text;
+use wf_data::is_static;
+use wf_descriptor::{is_field_descriptor, is_method_descriptor};
+use wf_names::{is_field_name, is_method_name};
 
 /// A text, and whether it is a name or a descriptor of a member. Its bytes are gone through once, however
 /// many members it names; clones share them.

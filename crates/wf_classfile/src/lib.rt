@@ -2,6 +2,7 @@
 //! spell none.
 #![tactic(auto)]
 
+mod codes;
 mod constants;
 mod fault;
 mod keys;
@@ -15,7 +16,7 @@ mod write;
 mod writer;
 
 pub use fault::SpellFault;
-pub use read::read_class;
+pub use read::{read_class, read_class_file};
 pub use write::{write_class, written_and_read};
 
 #[cfg(test)]

@@ -1,6 +1,7 @@
 ghost use Rattle.std.specs.Prelude.{◌≡◌, IfOk};
 ghost use Rattle.std.specs.Int.{w16, w32};
-ghost use Rattle.wf_base.specs.Reading.{number, run, skipped, times};
+ghost use Rattle.wf_bytes.specs.Reading.{number, run, times};
+ghost use Rattle.wf_grammar.specs.Reading.{skipped};
 ghost use Rattle.wf_constpool.specs.Readers.{Gives, GivesAs};
 
 mod class;
@@ -9,8 +10,10 @@ mod methods;
 
 pub use class::{MAGIC, class_of, is_known_version, may_be_root, may_extend};
 use std::alloc::Global;
-use wf_base::{Cursor, PoolEntry, Why};
+use wf_base::Text;
+use wf_bytes::{Cursor, Why};
 use wf_constpool::{self, ClassFault, text_at};
+use wf_data::PoolEntry;
 
 /// A reader of the items of a class file, from the first to the last (JVMS 4). Each method reads one item
 /// or a few that belong together.
@@ -53,8 +56,15 @@ impl<'a> Reader<'a> {
         wf_constpool::run(&mut self.cursor, n)
     }
 
+    /// The next n bytes as a text, which is a part of the file.
+    fn text(&mut self, n: u32) -> Result<Text, ClassFault>
+        ensures { Gives self.new.cursor result (run n self.old.cursor) }
+    {
+        wf_constpool::text(self.alloc, &mut self.cursor, n)
+    }
+
     /// A reader of the next n bytes alone.
-    #[tactic(auto, unfolding(wf_base::specs::Reading::run))]
+    #[tactic(auto, unfolding(wf_bytes::specs::Reading::run))]
     fn part(&mut self, n: u32) -> Result<Reader<'a>, ClassFault>
         ensures bytes { GivesAs (λ inside. inside.cursor.left) self.new.cursor result (run n self.old.cursor) }
         ensures place { IfOk result (λ inside. inside.cursor.at ≡ self.old.cursor.at) }
@@ -70,7 +80,7 @@ impl<'a> Reader<'a> {
     }
 
     /// Passes over an attribute (JVMS 4.7.1).
-    #[tactic(auto, unfolding(wf_base::specs::Reading::skipped))]
+    #[tactic(auto, unfolding(wf_grammar::specs::Reading::skipped))]
     fn skip_attribute(&mut self, pool: &[PoolEntry]) -> Result<(), ClassFault>
         ensures { Gives self.new.cursor result (skipped pool.now tt self.old.cursor) }
     {
@@ -84,7 +94,7 @@ impl<'a> Reader<'a> {
         Ok(())
     }
 
-    #[tactic(auto, using(wf_base::proofs::Loops::goes_on_times, wf_constpool::proofs::Loops::ends_times, wf_base::proofs::Loops::is_done_times))]
+    #[tactic(auto, using(wf_bytes::proofs::Loops::goes_on_times, wf_constpool::proofs::Loops::ends_times, wf_bytes::proofs::Loops::is_done_times))]
     fn skip_attributes(&mut self, pool: &[PoolEntry], count: u16) -> Result<(), ClassFault>
         ensures { Gives self.new.cursor result (times (skipped pool.now) count tt self.old.cursor) }
     {

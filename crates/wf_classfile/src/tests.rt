@@ -5,8 +5,9 @@ use super::*;
 use std::alloc::{AllocError, Global};
 use std::process::Abort;
 use std::test::Fail;
-use wf_base::{ClassInfo, PoolEntry, Why};
+use wf_bytes::Why;
 use wf_constpool::ClassFault;
+use wf_data::{ClassInfo, PoolEntry};
 
 /// `java/lang/Object` with nothing in it. Its constants have the tags at 10 and 13.
 const OBJECT: &[u8] = b"\

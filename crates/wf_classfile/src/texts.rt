@@ -1,14 +1,14 @@
-ghost use Rattle.std.specs.Prelude.{◌≡◌, true, IfOk, Some};
-ghost use Rattle.wf_base.specs.ClassFile.{has_text};
-ghost use Rattle.wf_classfile.specs.Numbers.{number_in, text_there, Grows, Adds, Stand};
+ghost use Rattle.std.specs.Prelude.{◌≡◌, IfOk, Some};
+ghost use Rattle.wf_classfile.specs.Numbers.{number_in, Grows, Adds, Stand};
 ghost use Rattle.wf_classfile.specs.Places.{IsFound};
 
 use crate::known::Known;
 use std::alloc::{AllocError, Global};
 use std::collections::BTreeMap;
 use std::marker::Model;
-use wf_base::{PoolEntry, Text};
-use wf_constpool::text_at;
+use wf_base::Text;
+use wf_constpool::text_of;
+use wf_data::PoolEntry;
 
 /// A text at a place that was looked at.
 #[derive(Debug, Drop)]
@@ -33,7 +33,6 @@ impl Clone for Seen {
 /// looking there again takes logarithmic time.
 #[derive(Drop)]
 pub struct Texts<'p> {
-    alloc: Global,
     pool: &'p [PoolEntry],
     places: BTreeMap<u16, Seen>,
     /// Of each text the first place at which it was seen.
@@ -66,10 +65,10 @@ fn number_of(numbers: &mut BTreeMap<Text, u16>, text: &Text, place: u16) -> Resu
 
 impl<'p> Texts<'p> {
     pub fn new(alloc: Global, pool: &'p [PoolEntry]) -> Texts<'p>
-        ensures { result.pool ≡ pool.now }
+        ensures pool { result.pool ≡ pool.now }
+        ensures stand { Stand result.pool result.numbers }
     {
         Texts {
-            alloc,
             pool,
             places: BTreeMap::new(alloc),
             numbers: BTreeMap::new(alloc),
@@ -92,8 +91,8 @@ impl<'p> Texts<'p> {
         if let Some(seen) = self.places.get(&place) {
             return Ok(Some(seen.clone()?));
         }
-        let text = match text_at(self.pool, place) {
-            Some(text) => Text::shared(self.alloc, text)?,
+        let text = match text_of(self.pool, place) {
+            Some(text) => text.clone()?,
             None => return Ok(None),
         };
         let number = number_of(&mut self.numbers, &text, place)?;
@@ -101,19 +100,5 @@ impl<'p> Texts<'p> {
         let seen = Seen { known, number };
         self.places.insert(place, seen.clone()?)?;
         Ok(Some(seen))
-    }
-
-    /// The number of the text at a place where one stands.
-    pub fn number(&mut self, place: u16) -> Result<u16, AllocError>
-        requires { has_text self.old.pool place ≡ true }
-        ensures pool { self.new.pool ≡ self.old.pool }
-        ensures grows { Grows self.old.numbers self.new.numbers }
-        ensures stand { Stand self.new.pool self.new.numbers }
-        ensures number { IfOk result (λ n. number_in self.new.numbers (text_there self.old.pool place) ≡ Some n) }
-    {
-        match self.see(place)? {
-            Some(seen) => Ok(seen.number),
-            None => unreachable!(),
-        }
     }
 }

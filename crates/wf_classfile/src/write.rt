@@ -1,14 +1,16 @@
 ghost use Rattle.std.specs.Prelude.{◌≡◌, IfOk, Err};
-ghost use Rattle.wf_base.specs.ClassFile.{Spells};
-ghost use Rattle.wf_base.specs.Writing.{HasSpelling, spelling};
+ghost use Rattle.wf_grammar.specs.ClassFile.{Spells};
+ghost use Rattle.wf_grammar.specs.Writing.{HasSpelling, spelling};
 ghost use Rattle.wf_classfile.specs.Writers.{GivesAgain, GivesText};
 
 use crate::fault::SpellFault;
-use crate::read::read_class;
+use crate::read::read_class_file;
 use crate::writer::put_class;
 use std::alloc::Global;
-use wf_base::{ClassInfo, Text, class_files_are_read_exactly, spellings_are_exact};
+use wf_base::Text;
 use wf_constpool::ClassFault;
+use wf_data::ClassInfo;
+use wf_grammar::{class_files_are_read_exactly, spellings_are_exact};
 
 /// Writes a class in its one canonical spelling: its own pool; `Code` and the `ConstantValue` of a static
 /// field, which are the attributes that are kept, and no others; the least place of the pool that serves for
@@ -32,12 +34,11 @@ pub fn written_and_read(alloc: Global, class: &ClassInfo) -> Result<Option<Class
     ensures { GivesAgain class.now result }
 {
     class_files_are_read_exactly();
-    let text = write_class(alloc, class)?;
-    let bytes = text.as_slice();
-    if u32::try_from(bytes.len()).is_err() {
+    let file = write_class(alloc, class)?.into_shared(alloc)?;
+    if u32::try_from(file.as_slice().len()).is_err() {
         return Ok(None);
     }
-    match read_class(alloc, bytes) {
+    match read_class_file(alloc, &file) {
         Ok(again) => Ok(Some(again)),
         Err(ClassFault::NoMemory) => Err(SpellFault::NoMemory),
         Err(ClassFault::Bad { .. }) => unreachable!(),

@@ -1,18 +1,20 @@
 //! Fields and their constants (JVMS 4.5, 4.7.2).
 
 ghost use Rattle.std.specs.Prelude.{◌≡◌, None};
-ghost use Rattle.wf_base.specs.Reading.{constant_value, other_attribute, field_attribute, field, many_on, times};
+ghost use Rattle.wf_grammar.specs.Reading.{constant_value, other_attribute, field_attribute, field};
+ghost use Rattle.wf_bytes.specs.Reading.{many_on, times};
 ghost use Rattle.wf_constpool.specs.Readers.{Gives, GivesAs};
 
 use super::{Reader, bad};
 use crate::constants::has_constant_of;
 use crate::members::Members;
-use wf_base::{FieldInfo, PoolEntry, Why, is_static};
+use wf_bytes::Why;
 use wf_constpool::{ClassFault, text_at};
+use wf_data::{FieldInfo, PoolEntry, is_static};
 
 impl<'a> Reader<'a> {
     /// A ConstantValue behind its name, which stands at a place.
-    #[tactic(auto, unfolding(wf_base::specs::Reading::constant_value))]
+    #[tactic(auto, unfolding(wf_grammar::specs::Reading::constant_value))]
     fn constant_value(
         &mut self,
         pool: &[PoolEntry],
@@ -38,7 +40,7 @@ impl<'a> Reader<'a> {
     }
 
     /// Another attribute behind its name.
-    #[tactic(auto, unfolding(wf_base::specs::Reading::other_attribute))]
+    #[tactic(auto, unfolding(wf_grammar::specs::Reading::other_attribute))]
     fn other_attribute(&mut self, constant: Option<u16>) -> Result<Option<u16>, ClassFault>
         ensures { Gives self.new.cursor result (other_attribute constant self.old.cursor) }
     {
@@ -48,7 +50,7 @@ impl<'a> Reader<'a> {
     }
 
     /// An attribute of a field, behind those that left this constant.
-    #[tactic(auto, unfolding(wf_base::specs::Reading::field_attribute))]
+    #[tactic(auto, unfolding(wf_grammar::specs::Reading::field_attribute))]
     fn field_attribute(
         &mut self,
         pool: &[PoolEntry],
@@ -68,7 +70,7 @@ impl<'a> Reader<'a> {
         }
     }
 
-    #[tactic(auto, using(wf_base::proofs::Loops::goes_on_times, wf_constpool::proofs::Loops::ends_times, wf_base::proofs::Loops::is_done_times))]
+    #[tactic(auto, using(wf_bytes::proofs::Loops::goes_on_times, wf_constpool::proofs::Loops::ends_times, wf_bytes::proofs::Loops::is_done_times))]
     fn field_attributes(
         &mut self,
         pool: &[PoolEntry],
@@ -85,7 +87,7 @@ impl<'a> Reader<'a> {
         Ok(constant)
     }
 
-    #[tactic(auto, unfolding(wf_base::specs::Reading::field, wf_base::specs::Reading::counted_on))]
+    #[tactic(auto, unfolding(wf_grammar::specs::Reading::field, wf_bytes::specs::Reading::counted_on))]
     fn field(
         &mut self,
         pool: &[PoolEntry],
@@ -97,31 +99,31 @@ impl<'a> Reader<'a> {
     {
         let flags = self.u2()?;
         let at = self.at();
-        let name_place = self.u2()?;
-        let name = members.text(name_place)?.ok_or(bad(at, Why::Index))?;
-        if !name.is_field_name() {
+        let place = self.u2()?;
+        let name = members.text(place)?.ok_or(bad(at, Why::Index))?;
+        if !name.known.is_field_name() {
             return Err(bad(at, Why::Name));
         }
         let at = self.at();
-        let desc_place = self.u2()?;
-        let desc = members.text(desc_place)?.ok_or(bad(at, Why::Index))?;
-        if !desc.is_field_descriptor() {
+        let place = self.u2()?;
+        let desc = members.text(place)?.ok_or(bad(at, Why::Index))?;
+        if !desc.known.is_field_descriptor() {
             return Err(bad(at, Why::Descriptor));
         }
-        if !members.insert(name_place, desc_place)? {
+        if !members.insert(&name, &desc)? {
             return Err(bad(at, Why::Twice));
         }
         let count = self.u2()?;
-        let constant = self.field_attributes(pool, is_static(flags), desc.as_slice(), count)?;
+        let constant = self.field_attributes(pool, is_static(flags), desc.known.as_slice(), count)?;
         Ok(FieldInfo {
-            name: name.into_text(),
-            desc: desc.into_text(),
+            name: name.known.into_text(),
+            desc: desc.known.into_text(),
             flags,
             constant,
         })
     }
 
-    #[tactic(auto, using(wf_base::proofs::Loops::goes_on_on, wf_constpool::proofs::Loops::ends_on, wf_base::proofs::Loops::is_done_on))]
+    #[tactic(auto, using(wf_bytes::proofs::Loops::goes_on_on, wf_constpool::proofs::Loops::ends_on, wf_bytes::proofs::Loops::is_done_on))]
     pub fn fields(
         &mut self,
         members: &mut Members<'_>,

@@ -1,19 +1,22 @@
 //! Methods and their code (JVMS 4.6, 4.7.3).
 
-ghost use Rattle.std.specs.Prelude.{◌≡◌, not, ◌&&◌, ◌==◌, nat_lt, IfOk};
-ghost use Rattle.std.specs.List.{filter_map};
-ghost use Rattle.wf_base.specs.ClassFile.{only_code};
-ghost use Rattle.wf_base.specs.Reading.{many, many_on, whole, handler, code, method_attribute_as, method_attribute, method};
+ghost use Rattle.std.specs.Prelude.{◌≡◌, not, ◌&&◌, ◌==◌, nat_lt};
+ghost use Rattle.wf_classfile.specs.declared.codes.Codes.TheVariants.{Missing};
+ghost use Rattle.wf_classfile.specs.OnlyCode.{with_codes, GivesOnly};
+ghost use Rattle.wf_bytes.specs.Reading.{many, many_on, whole};
+ghost use Rattle.wf_grammar.specs.Reading.{handler, code, method_attribute_as, method_attribute, method};
 ghost use Rattle.wf_constpool.specs.Readers.{Gives, GivesAs, GivesValue};
 
 use super::{Reader, bad};
+use crate::codes::Codes;
 use crate::members::Members;
-use std::alloc::{AllocError, Global};
-use wf_base::{CodeInfo, Handler, Items, MethodInfo, PoolEntry, Text, Why, is_native_or_abstract};
+use wf_base::Items;
+use wf_bytes::Why;
 use wf_constpool::{ClassFault, text_at};
+use wf_data::{CodeInfo, Handler, MethodInfo, PoolEntry, is_native_or_abstract};
 
 impl<'a> Reader<'a> {
-    #[tactic(auto, unfolding(wf_base::specs::Reading::handler))]
+    #[tactic(auto, unfolding(wf_grammar::specs::Reading::handler))]
     fn handler(&mut self) -> Result<Handler, ClassFault>
         ensures { Gives self.new.cursor result (handler self.old.cursor) }
     {
@@ -29,7 +32,7 @@ impl<'a> Reader<'a> {
         })
     }
 
-    #[tactic(auto, using(wf_base::proofs::Loops::goes_on, wf_constpool::proofs::Loops::ends, wf_base::proofs::Loops::is_done))]
+    #[tactic(auto, using(wf_bytes::proofs::Loops::goes_on, wf_constpool::proofs::Loops::ends, wf_bytes::proofs::Loops::is_done))]
     fn handlers(&mut self, count: u16) -> Result<Vec<Handler>, ClassFault>
         ensures { GivesAs (λ table. table.items) self.new.cursor result (many handler count self.old.cursor) }
     {
@@ -41,7 +44,7 @@ impl<'a> Reader<'a> {
     }
 
     /// The inside of a Code attribute (JVMS 4.7.3).
-    #[tactic(auto, unfolding(wf_base::specs::Reading::code, wf_base::specs::Reading::counted, wf_base::specs::Reading::counted_on))]
+    #[tactic(auto, unfolding(wf_grammar::specs::Reading::code, wf_bytes::specs::Reading::counted, wf_bytes::specs::Reading::counted_on))]
     fn code(&mut self, pool: &[PoolEntry]) -> Result<CodeInfo, ClassFault>
         ensures { Gives self.new.cursor result (code pool.now self.old.cursor) }
     {
@@ -52,7 +55,7 @@ impl<'a> Reader<'a> {
         if !is_code_size(size) {
             return Err(bad(at, Why::Code));
         }
-        let code = self.run(size)?;
+        let code = self.text(size)?;
         let count = self.u2()?;
         let table = self.handlers(count)?;
         let count = self.u2()?;
@@ -60,7 +63,7 @@ impl<'a> Reader<'a> {
         Ok(CodeInfo {
             max_stack,
             max_locals,
-            code: Text::from_slice(self.alloc, code)?,
+            code,
             table: Items::from_vec(table),
         })
     }
@@ -78,7 +81,7 @@ impl<'a> Reader<'a> {
     }
 
     /// The inside of an attribute of a method, by whether it is a Code.
-    #[tactic(auto, unfolding(wf_base::specs::Reading::method_attribute_as))]
+    #[tactic(auto, unfolding(wf_grammar::specs::Reading::method_attribute_as))]
     fn method_attribute_as(
         self,
         pool: &[PoolEntry],
@@ -93,7 +96,7 @@ impl<'a> Reader<'a> {
         Ok(Some(self.whole_code(pool, at)?))
     }
 
-    #[tactic(auto, unfolding(wf_base::specs::Reading::method_attribute))]
+    #[tactic(auto, unfolding(wf_grammar::specs::Reading::method_attribute))]
     fn method_attribute(&mut self, pool: &[PoolEntry]) -> Result<Option<CodeInfo>, ClassFault>
         ensures { Gives self.new.cursor result (method_attribute pool.now self.old.cursor) }
     {
@@ -106,22 +109,34 @@ impl<'a> Reader<'a> {
         inside.method_attribute_as(pool, name == b"Code".as_slice(), at)
     }
 
-    #[tactic(auto, using(wf_base::proofs::Loops::goes_on, wf_constpool::proofs::Loops::ends, wf_base::proofs::Loops::is_done))]
-    fn method_attributes(
+    /// The codes among so many attributes.
+    #[tactic(auto, using(crate::proofs::CodeLaws::goes_on, crate::proofs::CodeLaws::ends, crate::proofs::CodeLaws::is_done))]
+    fn method_attributes(&mut self, pool: &[PoolEntry], count: u16) -> Result<Codes, ClassFault>
+        ensures { Gives self.new.cursor result (with_codes Missing (many (method_attribute pool.now) count self.old.cursor)) }
+    {
+        let mut codes = Codes::Missing;
+        for _ in 0..count {
+            let attribute = self.method_attribute(pool)?;
+            codes = codes.and(attribute);
+        }
+        Ok(codes)
+    }
+
+    /// The code that so many attributes leave a method, which is without one or has exactly one.
+    #[tactic(auto, using(crate::proofs::CodeLaws::leave, crate::proofs::CodeLaws::fail))]
+    fn only_code(
         &mut self,
         pool: &[PoolEntry],
         count: u16,
-    ) -> Result<Vec<Option<CodeInfo>>, ClassFault>
-        ensures { GivesAs (λ attributes. attributes.items) self.new.cursor result (many (method_attribute pool.now) count self.old.cursor) }
+        is_without: bool,
+    ) -> Result<Option<Option<CodeInfo>>, ClassFault>
+        ensures { GivesOnly is_without self.new.cursor result (many (method_attribute pool.now) count self.old.cursor) }
     {
-        let mut attributes = Vec::new(self.alloc);
-        for _ in 0..count {
-            attributes.push(self.method_attribute(pool)?)?;
-        }
-        Ok(attributes)
+        let codes = self.method_attributes(pool, count)?;
+        Ok(codes.only(is_without))
     }
 
-    #[tactic(auto, unfolding(wf_base::specs::Reading::method, wf_base::specs::Reading::counted))]
+    #[tactic(auto, unfolding(wf_grammar::specs::Reading::method, wf_bytes::specs::Reading::counted))]
     fn method(
         &mut self,
         pool: &[PoolEntry],
@@ -134,33 +149,33 @@ impl<'a> Reader<'a> {
         let start = self.at();
         let flags = self.u2()?;
         let at = self.at();
-        let name_place = self.u2()?;
-        let name = members.text(name_place)?.ok_or(bad(at, Why::Index))?;
-        if !name.is_method_name() {
+        let place = self.u2()?;
+        let name = members.text(place)?.ok_or(bad(at, Why::Index))?;
+        if !name.known.is_method_name() {
             return Err(bad(at, Why::Name));
         }
         let at = self.at();
-        let desc_place = self.u2()?;
-        let desc = members.text(desc_place)?.ok_or(bad(at, Why::Index))?;
-        if !desc.is_method_descriptor(flags) {
+        let place = self.u2()?;
+        let desc = members.text(place)?.ok_or(bad(at, Why::Index))?;
+        if !desc.known.is_method_descriptor(flags) {
             return Err(bad(at, Why::Descriptor));
         }
-        if !members.insert(name_place, desc_place)? {
+        if !members.insert(&name, &desc)? {
             return Err(bad(at, Why::Twice));
         }
         let count = self.u2()?;
-        let attributes = self.method_attributes(pool, count)?;
-        let codes = codes_of(self.alloc, attributes)?;
-        let code = only_code(is_native_or_abstract(flags), codes).ok_or(bad(start, Why::Code))?;
+        let code = self
+            .only_code(pool, count, is_native_or_abstract(flags))?
+            .ok_or(bad(start, Why::Code))?;
         Ok(MethodInfo {
-            name: name.into_text(),
-            desc: desc.into_text(),
+            name: name.known.into_text(),
+            desc: desc.known.into_text(),
             flags,
             code,
         })
     }
 
-    #[tactic(auto, using(wf_base::proofs::Loops::goes_on_on, wf_constpool::proofs::Loops::ends_on, wf_base::proofs::Loops::is_done_on))]
+    #[tactic(auto, using(wf_bytes::proofs::Loops::goes_on_on, wf_constpool::proofs::Loops::ends_on, wf_bytes::proofs::Loops::is_done_on))]
     pub fn methods(
         &mut self,
         members: &mut Members<'_>,
@@ -176,30 +191,6 @@ impl<'a> Reader<'a> {
         }
         Ok(methods)
     }
-}
-
-/// The codes among the attributes.
-fn codes_of(alloc: Global, attributes: Vec<Option<CodeInfo>>) -> Result<Vec<CodeInfo>, AllocError>
-    ensures { IfOk result (λ codes. codes.items ≡ filter_map (λ a. a) attributes.items) }
-{
-    attributes
-        .into_iter()
-        .filter_map(|attribute| attribute)
-        .collect(alloc)
-}
-
-/// The code that the attributes of a method leave: none in a native or abstract method, exactly one in
-/// every other.
-fn only_code(is_without: bool, mut codes: Vec<CodeInfo>) -> Option<Option<CodeInfo>>
-    ensures { result ≡ only_code is_without codes.items }
-{
-    if is_without {
-        return codes.is_empty().then_some(None);
-    }
-    if codes.len() != 1 {
-        return None;
-    }
-    Some(codes.pop())
 }
 
 fn is_code_size(size: u32) -> bool

@@ -1,6 +1,6 @@
 use super::{Change, SAME, changed, is_bad, with};
 use std::test::Fail;
-use wf_base::Why;
+use wf_bytes::Why;
 
 /// An abstract class `A` with two fields and two methods that are named `x`, by the texts at places 5 and 6.
 /// The descriptors are at places 7 `I`, 8 `J`, 10 `()V`, 11 `()I` and 12 `I` again; at place 9 is `<x>`. The

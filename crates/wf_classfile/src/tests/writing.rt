@@ -4,7 +4,8 @@ use crate::{SpellFault, write_class, written_and_read};
 use std::alloc::{AllocError, Global};
 use std::process::Abort;
 use std::test::Fail;
-use wf_base::{ClassInfo, CodeInfo, FieldInfo, Items, MethodInfo, PoolEntry, Text};
+use wf_base::{Items, Text};
+use wf_data::{ClassInfo, CodeInfo, FieldInfo, MethodInfo, PoolEntry};
 
 /// KEPT without its StackMapTable and without the constant of the instance field: what its class is written as.
 /// `javap -v` reads it.

@@ -1,7 +1,7 @@
 //! The class itself (JVMS 4.1).
 
 ghost use Rattle.std.specs.Prelude.{◌≡◌};
-ghost use Rattle.wf_base.specs.Writing.{put_superclass, put_interfaces, put_classes, put_members, put_class};
+ghost use Rattle.wf_grammar.specs.Writing.{put_superclass, put_interfaces, put_classes, put_members, put_class};
 ghost use Rattle.wf_classfile.specs.Writers.{Writes};
 
 use super::constants::put_pool;
@@ -12,10 +12,12 @@ use crate::fault::SpellFault;
 use crate::keys::Keys;
 use crate::reader::{MAGIC, is_known_version, may_be_root, may_extend};
 use std::alloc::Global;
-use wf_base::{ClassInfo, PoolEntry, Text, is_class_name};
+use wf_base::Text;
+use wf_data::{ClassInfo, PoolEntry};
+use wf_names::is_class_name;
 
 /// The superclass: none in java/lang/Object alone, and java/lang/Object in every interface.
-#[tactic(auto, unfolding(wf_base::specs::Writing::put_superclass))]
+#[tactic(auto, unfolding(wf_grammar::specs::Writing::put_superclass))]
 fn put_superclass(out: &mut Vec<u8>, class: &ClassInfo) -> Result<(), SpellFault>
     ensures { Writes out.new.items result (put_superclass class.now class.now.superclass out.old.items) }
 {
@@ -43,7 +45,7 @@ fn put_interfaces(
 }
 
 /// The class and what it stands below.
-#[tactic(auto, unfolding(wf_base::specs::Writing::put_classes))]
+#[tactic(auto, unfolding(wf_grammar::specs::Writing::put_classes))]
 fn put_classes(out: &mut Vec<u8>, class: &ClassInfo) -> Result<(), SpellFault>
     ensures { Writes out.new.items result (put_classes class.now out.old.items) }
 {
@@ -61,7 +63,7 @@ fn put_classes(out: &mut Vec<u8>, class: &ClassInfo) -> Result<(), SpellFault>
 }
 
 /// The fields and the methods.
-#[tactic(auto, unfolding(wf_base::specs::Writing::put_members))]
+#[tactic(auto, unfolding(wf_grammar::specs::Writing::put_members))]
 fn put_members(alloc: Global, out: &mut Vec<u8>, class: &ClassInfo) -> Result<(), SpellFault>
     ensures { Writes out.new.items result (put_members class.now out.old.items) }
 {
@@ -76,7 +78,7 @@ fn put_members(alloc: Global, out: &mut Vec<u8>, class: &ClassInfo) -> Result<()
 }
 
 /// A class file.
-#[tactic(auto, unfolding(wf_base::specs::Writing::put_class))]
+#[tactic(auto, unfolding(wf_grammar::specs::Writing::put_class))]
 pub fn put_class(alloc: Global, out: &mut Vec<u8>, class: &ClassInfo) -> Result<(), SpellFault>
     ensures { Writes out.new.items result (put_class class.now out.old.items) }
 {

@@ -2,16 +2,16 @@
 
 ghost use Rattle.std.specs.Prelude.{◌≡◌, false, not, ◌&&◌};
 ghost use Rattle.std.specs.List.{list_all};
-ghost use Rattle.wf_base.specs.ClassFile.{is_sound};
-ghost use Rattle.wf_base.specs.Writing.{put_text, put_two_places, put_handle, tag_of, put_behind_tag, put_entry, is_wide, is_unusable, put_pool_place, put_places, put_entries, put_pool};
+ghost use Rattle.wf_grammar.specs.ClassFile.{is_sound};
+ghost use Rattle.wf_grammar.specs.Writing.{put_text, put_two_places, put_handle, tag_of, put_behind_tag, put_entry, is_wide, is_unusable, put_pool_place, put_places, put_entries, put_pool};
 ghost use Rattle.wf_classfile.specs.Writers.{Writes};
 
 use super::items::{put, put_count, put_i4, put_i8, put_u1, put_u2, put_u4, put_u8};
 use crate::fault::SpellFault;
-use wf_base::PoolEntry;
 use wf_constpool::{are_text_bytes, is_sound};
+use wf_data::PoolEntry;
 
-#[tactic(auto, unfolding(wf_base::specs::Writing::put_text))]
+#[tactic(auto, unfolding(wf_grammar::specs::Writing::put_text))]
 fn put_text(out: &mut Vec<u8>, text: &[u8]) -> Result<(), SpellFault>
     ensures { Writes out.new.items result (put_text text.now out.old.items) }
 {
@@ -22,7 +22,7 @@ fn put_text(out: &mut Vec<u8>, text: &[u8]) -> Result<(), SpellFault>
     put(out, text)
 }
 
-#[tactic(auto, unfolding(wf_base::specs::Writing::put_two_places))]
+#[tactic(auto, unfolding(wf_grammar::specs::Writing::put_two_places))]
 fn put_two_places(out: &mut Vec<u8>, first: u16, second: u16) -> Result<(), SpellFault>
     ensures { Writes out.new.items result (put_two_places first second out.old.items) }
 {
@@ -30,7 +30,7 @@ fn put_two_places(out: &mut Vec<u8>, first: u16, second: u16) -> Result<(), Spel
     put_u2(out, second)
 }
 
-#[tactic(auto, unfolding(wf_base::specs::Writing::put_handle))]
+#[tactic(auto, unfolding(wf_grammar::specs::Writing::put_handle))]
 fn put_handle(out: &mut Vec<u8>, kind: u8, member: u16) -> Result<(), SpellFault>
     ensures { Writes out.new.items result (put_handle kind member out.old.items) }
 {
@@ -61,7 +61,7 @@ fn tag_of(entry: &PoolEntry) -> u8
     }
 }
 
-#[tactic(auto, unfolding(wf_base::specs::Writing::put_behind_tag))]
+#[tactic(auto, unfolding(wf_grammar::specs::Writing::put_behind_tag))]
 fn put_behind_tag(out: &mut Vec<u8>, entry: &PoolEntry) -> Result<(), SpellFault>
     ensures { Writes out.new.items result (put_behind_tag entry.now out.old.items) }
 {
@@ -84,7 +84,7 @@ fn put_behind_tag(out: &mut Vec<u8>, entry: &PoolEntry) -> Result<(), SpellFault
     }
 }
 
-#[tactic(auto, unfolding(wf_base::specs::Writing::put_entry))]
+#[tactic(auto, unfolding(wf_grammar::specs::Writing::put_entry))]
 fn put_entry(out: &mut Vec<u8>, entry: &PoolEntry) -> Result<(), SpellFault>
     ensures { Writes out.new.items result (put_entry entry.now out.old.items) }
 {
@@ -111,7 +111,7 @@ fn is_unusable(entry: &PoolEntry) -> bool
 }
 
 /// One place, which may be the second of a Long or a Double.
-#[tactic(auto, unfolding(wf_base::specs::Writing::put_pool_place))]
+#[tactic(auto, unfolding(wf_grammar::specs::Writing::put_pool_place))]
 fn put_pool_place(out: &mut Vec<u8>, is_second: bool, entry: &PoolEntry) -> Result<(), SpellFault>
     ensures { Writes out.new.items result (put_pool_place is_second entry.now out.old.items) }
 {
@@ -152,7 +152,7 @@ fn are_sound(pool: &[PoolEntry], entries: &[PoolEntry]) -> bool
     entries.iter().all(|entry| is_sound(pool, entry))
 }
 
-#[tactic(auto, unfolding(wf_base::specs::Writing::put_entries))]
+#[tactic(auto, unfolding(wf_grammar::specs::Writing::put_entries))]
 fn put_entries(
     out: &mut Vec<u8>,
     pool: &[PoolEntry],
@@ -168,7 +168,7 @@ fn put_entries(
 }
 
 /// The pool, whose place 0 is unusable.
-#[tactic(auto, unfolding(wf_base::specs::Writing::put_pool))]
+#[tactic(auto, unfolding(wf_grammar::specs::Writing::put_pool))]
 pub fn put_pool(out: &mut Vec<u8>, pool: &[PoolEntry]) -> Result<(), SpellFault>
     ensures { Writes out.new.items result (put_pool pool.now out.old.items) }
 {

@@ -2,13 +2,13 @@
 
 ghost use Rattle.std.specs.Prelude.{◌≡◌};
 ghost use Rattle.std.specs.Int.{w8, w16, w32, w64};
-ghost use Rattle.wf_base.specs.Writing.{put, put_number, put_signed};
+ghost use Rattle.wf_grammar.specs.Writing.{put, put_number, put_signed};
 ghost use Rattle.wf_classfile.specs.Writers.{Writes};
 
 use crate::fault::SpellFault;
 
 /// One byte.
-#[tactic(auto, unfolding(wf_base::specs::Writing::put_number))]
+#[tactic(auto, unfolding(wf_grammar::specs::Writing::put_number))]
 pub fn put_u1(out: &mut Vec<u8>, number: u8) -> Result<(), SpellFault>
     ensures { Writes out.new.items result (put_number w8 number out.old.items) }
 {
@@ -17,7 +17,7 @@ pub fn put_u1(out: &mut Vec<u8>, number: u8) -> Result<(), SpellFault>
 }
 
 /// Two bytes, the higher first.
-#[tactic(auto, unfolding(wf_base::specs::Writing::put_number))]
+#[tactic(auto, unfolding(wf_grammar::specs::Writing::put_number))]
 pub fn put_u2(out: &mut Vec<u8>, number: u16) -> Result<(), SpellFault>
     ensures { Writes out.new.items result (put_number w16 number out.old.items) }
 {
@@ -26,7 +26,7 @@ pub fn put_u2(out: &mut Vec<u8>, number: u16) -> Result<(), SpellFault>
 }
 
 /// Four bytes, the highest first.
-#[tactic(auto, unfolding(wf_base::specs::Writing::put_number))]
+#[tactic(auto, unfolding(wf_grammar::specs::Writing::put_number))]
 pub fn put_u4(out: &mut Vec<u8>, number: u32) -> Result<(), SpellFault>
     ensures { Writes out.new.items result (put_number w32 number out.old.items) }
 {
@@ -35,7 +35,7 @@ pub fn put_u4(out: &mut Vec<u8>, number: u32) -> Result<(), SpellFault>
 }
 
 /// Eight bytes, the highest first.
-#[tactic(auto, unfolding(wf_base::specs::Writing::put_number))]
+#[tactic(auto, unfolding(wf_grammar::specs::Writing::put_number))]
 pub fn put_u8(out: &mut Vec<u8>, number: u64) -> Result<(), SpellFault>
     ensures { Writes out.new.items result (put_number w64 number out.old.items) }
 {
@@ -44,7 +44,7 @@ pub fn put_u8(out: &mut Vec<u8>, number: u64) -> Result<(), SpellFault>
 }
 
 /// A signed number of four bytes.
-#[tactic(auto, unfolding(wf_base::specs::Writing::put_signed))]
+#[tactic(auto, unfolding(wf_grammar::specs::Writing::put_signed))]
 pub fn put_i4(out: &mut Vec<u8>, number: i32) -> Result<(), SpellFault>
     ensures { Writes out.new.items result (put_signed w32 number out.old.items) }
 {
@@ -52,7 +52,7 @@ pub fn put_i4(out: &mut Vec<u8>, number: i32) -> Result<(), SpellFault>
 }
 
 /// A signed number of eight bytes.
-#[tactic(auto, unfolding(wf_base::specs::Writing::put_signed))]
+#[tactic(auto, unfolding(wf_grammar::specs::Writing::put_signed))]
 pub fn put_i8(out: &mut Vec<u8>, number: i64) -> Result<(), SpellFault>
     ensures { Writes out.new.items result (put_signed w64 number out.old.items) }
 {
@@ -60,7 +60,7 @@ pub fn put_i8(out: &mut Vec<u8>, number: i64) -> Result<(), SpellFault>
 }
 
 /// A count of two bytes, where it has room.
-#[tactic(auto, unfolding(wf_base::specs::Writing::put_number))]
+#[tactic(auto, unfolding(wf_grammar::specs::Writing::put_number))]
 pub fn put_count(out: &mut Vec<u8>, count: usize) -> Result<(), SpellFault>
     ensures { Writes out.new.items result (put_number w16 count out.old.items) }
 {
@@ -71,7 +71,7 @@ pub fn put_count(out: &mut Vec<u8>, count: usize) -> Result<(), SpellFault>
 }
 
 /// A length of four bytes, where it has room.
-#[tactic(auto, unfolding(wf_base::specs::Writing::put_number))]
+#[tactic(auto, unfolding(wf_grammar::specs::Writing::put_number))]
 pub fn put_length(out: &mut Vec<u8>, length: usize) -> Result<(), SpellFault>
     ensures { Writes out.new.items result (put_number w32 length out.old.items) }
 {

@@ -2,8 +2,9 @@
 
 ghost use Rattle.std.specs.Prelude.{◌≡◌, ◌-◌, ◌^◌, ◌++◌, ◌∷◌, [], not, ◌&&◌, ◌==◌, nat_lt, nat_le, length, min, IfOk, Some};
 ghost use Rattle.std.specs.Int.{w32};
-ghost use Rattle.wf_base.specs.ClassFile.{is_static, is_native_or_abstract, has_constant_of, parameter_slots};
-ghost use Rattle.wf_base.specs.Writing.{put_constant, put_field_attributes, put_member, put_field, put_fields, put_handler, put_handlers, put_number, put_code, code_size, put_code_attribute, put_method_attributes, put_method, put_methods};
+ghost use Rattle.wf_data.specs.Flags.{is_static, is_native_or_abstract};
+ghost use Rattle.wf_grammar.specs.ClassFile.{has_constant_of, parameter_slots};
+ghost use Rattle.wf_grammar.specs.Writing.{put_constant, put_field_attributes, put_member, put_field, put_fields, put_handler, put_handlers, put_number, put_code, code_size, put_code_attribute, put_method_attributes, put_method, put_methods};
 ghost use Rattle.wf_classfile.specs.Writers.{Writes};
 
 use super::items::{put, put_count, put_length, put_u2, put_u4};
@@ -11,13 +12,14 @@ use super::places::put_text_place;
 use crate::constants::has_constant_of;
 use crate::fault::SpellFault;
 use crate::keys::Keys;
-use wf_base::{
-    CodeInfo, FieldInfo, Handler, MethodInfo, PoolEntry, is_field_descriptor, is_field_name,
-    is_method_descriptor, is_method_name, is_native_or_abstract, is_static,
+use wf_data::{
+    CodeInfo, FieldInfo, Handler, MethodInfo, PoolEntry, is_native_or_abstract, is_static,
 };
+use wf_descriptor::{is_field_descriptor, is_method_descriptor};
+use wf_names::{is_field_name, is_method_name};
 
 /// A ConstantValue with its count.
-#[tactic(auto, unfolding(wf_base::specs::Writing::put_constant))]
+#[tactic(auto, unfolding(wf_grammar::specs::Writing::put_constant))]
 fn put_constant(
     out: &mut Vec<u8>,
     pool: &[PoolEntry],
@@ -35,7 +37,7 @@ fn put_constant(
     put_u2(out, place)
 }
 
-#[tactic(auto, unfolding(wf_base::specs::Writing::put_field_attributes))]
+#[tactic(auto, unfolding(wf_grammar::specs::Writing::put_field_attributes))]
 fn put_field_attributes(
     out: &mut Vec<u8>,
     pool: &[PoolEntry],
@@ -50,7 +52,7 @@ fn put_field_attributes(
 }
 
 /// The flags, the name and the descriptor of a member, whose key none before it has.
-#[tactic(auto, unfolding(wf_base::specs::Writing::put_member))]
+#[tactic(auto, unfolding(wf_grammar::specs::Writing::put_member))]
 fn put_member<'c>(
     out: &mut Vec<u8>,
     pool: &[PoolEntry],
@@ -70,7 +72,7 @@ fn put_member<'c>(
     put_text_place(out, pool, desc)
 }
 
-#[tactic(auto, unfolding(wf_base::specs::Writing::put_field))]
+#[tactic(auto, unfolding(wf_grammar::specs::Writing::put_field))]
 fn put_field<'c>(
     out: &mut Vec<u8>,
     pool: &[PoolEntry],
@@ -105,7 +107,7 @@ pub fn put_fields<'c>(
 }
 
 /// An entry of the exception table (JVMS 4.7.3).
-#[tactic(auto, unfolding(wf_base::specs::Writing::put_handler))]
+#[tactic(auto, unfolding(wf_grammar::specs::Writing::put_handler))]
 fn put_handler(out: &mut Vec<u8>, handler: &Handler) -> Result<(), SpellFault>
     ensures { Writes out.new.items result (put_handler handler.now out.old.items) }
 {
@@ -132,7 +134,7 @@ fn is_code_size(size: usize) -> bool
 }
 
 /// The inside of a Code attribute (JVMS 4.7.3).
-#[tactic(auto, unfolding(wf_base::specs::Writing::put_code))]
+#[tactic(auto, unfolding(wf_grammar::specs::Writing::put_code))]
 fn put_code(out: &mut Vec<u8>, code: &CodeInfo) -> Result<(), SpellFault>
     ensures { Writes out.new.items result (put_code code.now out.old.items) }
 {
@@ -159,7 +161,7 @@ fn code_size(code: &CodeInfo) -> usize
     bytes.saturating_add(table)
 }
 
-#[tactic(auto, unfolding(wf_base::specs::Writing::put_number))]
+#[tactic(auto, unfolding(wf_grammar::specs::Writing::put_number))]
 fn put_code_length(out: &mut Vec<u8>, code: &CodeInfo) -> Result<(), SpellFault>
     ensures { Writes out.new.items result (put_number w32 (code_size code.now) out.old.items) }
 {
@@ -167,7 +169,7 @@ fn put_code_length(out: &mut Vec<u8>, code: &CodeInfo) -> Result<(), SpellFault>
 }
 
 /// A Code attribute with its count.
-#[tactic(auto, unfolding(wf_base::specs::Writing::put_code_attribute))]
+#[tactic(auto, unfolding(wf_grammar::specs::Writing::put_code_attribute))]
 fn put_code_attribute(
     out: &mut Vec<u8>,
     pool: &[PoolEntry],
@@ -181,7 +183,7 @@ fn put_code_attribute(
     put_code(out, code)
 }
 
-#[tactic(auto, unfolding(wf_base::specs::Writing::put_method_attributes))]
+#[tactic(auto, unfolding(wf_grammar::specs::Writing::put_method_attributes))]
 fn put_method_attributes(
     out: &mut Vec<u8>,
     pool: &[PoolEntry],
@@ -204,7 +206,7 @@ fn parameter_slots(flags: u16) -> u8
     if is_static(flags) { 255 } else { 254 }
 }
 
-#[tactic(auto, unfolding(wf_base::specs::Writing::put_method))]
+#[tactic(auto, unfolding(wf_grammar::specs::Writing::put_method))]
 fn put_method<'c>(
     out: &mut Vec<u8>,
     pool: &[PoolEntry],

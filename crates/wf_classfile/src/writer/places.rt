@@ -1,13 +1,13 @@
 //! The least places of the pool that serve.
 
 ghost use Rattle.std.specs.Prelude.{◌≡◌};
-ghost use Rattle.wf_base.specs.Writing.{is_text, is_class, text_place, class_place, put_place};
+ghost use Rattle.wf_grammar.specs.Writing.{is_text, is_class, text_place, class_place, put_place};
 ghost use Rattle.wf_classfile.specs.Writers.{Writes};
 
 use super::items::put_count;
 use crate::fault::SpellFault;
-use wf_base::PoolEntry;
 use wf_constpool::text_at;
+use wf_data::PoolEntry;
 
 fn is_text(text: &[u8], entry: &PoolEntry) -> bool
     ensures { result ≡ is_text text.now entry.now }
@@ -42,7 +42,7 @@ fn class_place(pool: &[PoolEntry], name: &[u8]) -> Option<usize>
     pool.iter().position(|entry| is_class(pool, name, entry))
 }
 
-#[tactic(auto, unfolding(wf_base::specs::Writing::put_place))]
+#[tactic(auto, unfolding(wf_grammar::specs::Writing::put_place))]
 fn put_place(out: &mut Vec<u8>, place: Option<usize>) -> Result<(), SpellFault>
     ensures { Writes out.new.items result (put_place place out.old.items) }
 {

@@ -1,5 +1,6 @@
 use Rattle.std.proofs.Common.{◌≡◌, ◌-◌, None}
-use Rattle.wf_base.specs.Reading.{times, field_attribute}
+use Rattle.wf_bytes.specs.Reading.{times}
+use Rattle.wf_grammar.specs.Reading.{field_attribute}
 use Rattle.wf_classfile.proofs.reader.Reader.field_attributes.Given as goal
 
 abbrev pub invariant-loop : goal.invariant-loop

@@ -1,6 +1,7 @@
 use Rattle.std.proofs.Common.{◌≡◌, ◌-◌}
-use Rattle.wf_base.specs.Reading.{many_on, field}
-use Rattle.wf_base.proofs.Loops.{with_front_on}
+use Rattle.wf_bytes.specs.Reading.{many_on}
+use Rattle.wf_grammar.specs.Reading.{field}
+use Rattle.wf_bytes.proofs.Loops.{with_front_on}
 use Rattle.wf_classfile.proofs.reader.Reader.fields.Given as goal
 
 abbrev pub invariant-loop : goal.invariant-loop

@@ -1,6 +1,7 @@
 use Rattle.std.proofs.Common.{◌≡◌, ◌-◌}
-use Rattle.wf_base.specs.Reading.{many, handler}
-use Rattle.wf_base.proofs.Loops.{with_front}
+use Rattle.wf_bytes.specs.Reading.{many}
+use Rattle.wf_grammar.specs.Reading.{handler}
+use Rattle.wf_bytes.proofs.Loops.{with_front}
 use Rattle.wf_classfile.proofs.reader.Reader.handlers.Given as goal
 
 abbrev pub invariant-loop : goal.invariant-loop

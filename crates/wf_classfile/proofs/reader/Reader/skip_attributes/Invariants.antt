@@ -1,5 +1,6 @@
 use Rattle.std.proofs.Common.{◌≡◌, ◌-◌}
-use Rattle.wf_base.specs.Reading.{times, skipped}
+use Rattle.wf_bytes.specs.Reading.{times}
+use Rattle.wf_grammar.specs.Reading.{skipped}
 use Rattle.wf_classfile.proofs.reader.Reader.skip_attributes.Given as goal
 
 abbrev pub invariant-loop : goal.invariant-loop

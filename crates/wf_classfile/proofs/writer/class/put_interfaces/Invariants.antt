@@ -1,5 +1,5 @@
 use Rattle.std.proofs.Common.{◌≡◌, drop}
-use Rattle.wf_base.specs.Writing.{put_interfaces}
+use Rattle.wf_grammar.specs.Writing.{put_interfaces}
 use Rattle.wf_classfile.proofs.writer.class.put_interfaces.Given as goal
 
 abbrev pub invariant-loop-name : goal.invariant-loop-name

@@ -1,5 +1,5 @@
 use Rattle.std.proofs.Common.{◌≡◌, false, drop}
-use Rattle.wf_base.specs.Writing.{put_places}
+use Rattle.wf_grammar.specs.Writing.{put_places}
 use Rattle.wf_classfile.proofs.writer.constants.put_places.Given as goal
 
 abbrev pub invariant-loop-entry : goal.invariant-loop-entry

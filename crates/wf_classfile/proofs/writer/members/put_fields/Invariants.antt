@@ -1,5 +1,5 @@
 use Rattle.std.proofs.Common.{◌≡◌, drop}
-use Rattle.wf_base.specs.Writing.{put_fields}
+use Rattle.wf_grammar.specs.Writing.{put_fields}
 use Rattle.wf_classfile.proofs.writer.members.put_fields.Given as goal
 
 abbrev pub invariant-loop-field : goal.invariant-loop-field

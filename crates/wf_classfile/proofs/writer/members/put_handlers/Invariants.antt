@@ -1,5 +1,5 @@
 use Rattle.std.proofs.Common.{◌≡◌, drop}
-use Rattle.wf_base.specs.Writing.{put_handlers}
+use Rattle.wf_grammar.specs.Writing.{put_handlers}
 use Rattle.wf_classfile.proofs.writer.members.put_handlers.Given as goal
 
 abbrev pub invariant-loop-handler : goal.invariant-loop-handler

@@ -1,5 +1,5 @@
 use Rattle.std.proofs.Common.{◌≡◌, drop}
-use Rattle.wf_base.specs.Writing.{put_methods}
+use Rattle.wf_grammar.specs.Writing.{put_methods}
 use Rattle.wf_classfile.proofs.writer.members.put_methods.Given as goal
 
 abbrev pub invariant-loop-method : goal.invariant-loop-method
