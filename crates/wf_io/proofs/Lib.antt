@@ -1,2 +1,4 @@
 pub mod Listings
+pub mod LogLaws
 pub mod Paths
+mod Walks

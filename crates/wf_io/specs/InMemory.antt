@@ -1,10 +1,11 @@
 -- The tree and the sink in memory.
-use Rattle.std.specs.Prelude.{◌≡◌, ℕ, ◌+◌, ◌-◌, ◌^◌, List, Option, min, length, Contains}
+use Rattle.std.specs.Prelude.{◌≡◌, ℕ, ◌+◌, ◌-◌, ◌^◌, List, Some, min, length, Contains}
 use Rattle.wf_io.specs.declared.failing.Failing.{Failing}
-use Rattle.wf_io.specs.declared.tree.Call.{Call}
 use Rattle.wf_io.specs.declared.tree.MemFile.{MemFile}
 use Rattle.wf_io.specs.declared.tree_mem.TreeMem.{TreeMem}
 use Rattle.wf_io.specs.declared.sink_mem.SinkMem.{SinkMem}
+use Rattle.wf_io.specs.Calls.{log_of}
+use Rattle.wf_io.specs.Log.{Seen}
 
 -- the calls with these numbers fail, and so many were made
 abbrev pub numbers_from : List ℕ → ℕ → Failing
@@ -22,13 +23,9 @@ FailsNext f = Contains f.numbers f.made
 abbrev pub files_of : TreeMem → List MemFile
 files_of t = t.files
 
--- the call that failed last
-abbrev pub last_failed_of : TreeMem → Option Call
-last_failed_of t = t.failures.last
-
--- how many calls have failed
-abbrev pub failures_of : TreeMem → ℕ
-failures_of t = t.failures.count
+-- the files, and the calls that were made
+abbrev pub seen_of : TreeMem → Seen
+seen_of t = record { told = Some t.files; log = log_of t.calls }
 
 -- which calls fail
 abbrev pub failing_calls : TreeMem → Failing

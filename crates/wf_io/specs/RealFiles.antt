@@ -1,20 +1,17 @@
 -- The tree and the sink of real files.
-use Rattle.std.specs.Prelude.{ℕ, Option}
+use Rattle.std.specs.Prelude.{ℕ, None}
 use Rattle.wf_io.specs.declared.std_sink.StdSink.{StdSink}
 use Rattle.wf_io.specs.declared.std_tree.StdTree.{StdTree}
 use Rattle.std.specs.declared.io.ErrorKind.{ErrorKind}
 use Rattle.std.specs.declared.io.ErrorKind.TheVariants.{OutOfMemory}
-use Rattle.wf_io.specs.declared.tree.Call.{Call}
+use Rattle.wf_io.specs.Calls.{log_of}
+use Rattle.wf_io.specs.Log.{Seen}
 use Rattle.wf_io.specs.declared.tree.TreeFault.{TreeFault}
 use Rattle.wf_io.specs.declared.tree.TreeFault.TheVariants.{Failed, NoMemory}
 
--- the call that failed last
-abbrev pub last_failed_of : {R : Type 0} → StdTree R → Option Call
-last_failed_of t = t.failures.last
-
--- how many calls have failed
-abbrev pub failures_of : {R : Type 0} → StdTree R → ℕ
-failures_of t = t.failures.count
+-- no files, and the calls that were made
+abbrev pub seen_of : {R : Type 0} → StdTree R → Seen
+seen_of t = record { told = None; log = log_of t.calls }
 
 -- how many writes have failed
 abbrev pub faults_of : {W : Type 0} → StdSink W → ℕ

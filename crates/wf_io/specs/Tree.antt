@@ -1,5 +1,5 @@
 -- What a tree of files means: a list of files, each with its path and its bytes.
-use Rattle.std.specs.Prelude.{◌≡◌, ℕ, true, false, List, [], ◌∷◌, Option, Some, None, Result, Ok, Err, ◌==◌, if◌then◌else◌, option_map}
+use Rattle.std.specs.Prelude.{ℕ, true, false, List, [], ◌∷◌, Option, Some, None, ◌==◌, if◌then◌else◌, option_map}
 use Rattle.std.specs.Cmp.Lexicographic.{slice_cmp}
 use Rattle.std.specs.Option.{option_map_or}
 use Rattle.std.specs.declared.cmp.Ordering.{Ordering}
@@ -7,9 +7,6 @@ use Rattle.std.specs.Ordering.{nat_cmp, bool_cmp, ordering_then, match_ordering}
 use Rattle.std.specs.Str.{bytes_eq}
 use Rattle.wf_io.specs.declared.tree.MemFile.{MemFile}
 use Rattle.wf_io.specs.declared.tree.Entry.{Entry}
-use Rattle.wf_io.specs.declared.tree.Call.{Call}
-use Rattle.wf_io.specs.declared.tree.TreeFault.{TreeFault}
-use Rattle.wf_io.specs.declared.tree.TreeFault.TheVariants.{Failed, More, NoMemory}
 
 -- what a path has behind a directory and a slash
 abbrev pub rest_of : List ℕ → List ℕ → Option (List ℕ)
@@ -41,6 +38,11 @@ abbrev pub with_entry : Entry → List Entry → List Entry
 with_entry e [] = e ∷ []
 with_entry e (x ∷ xs) = match_ordering (entry_cmp e x) (e ∷ x ∷ xs) (x ∷ xs) (x ∷ with_entry e xs)
 
+-- The entries in order, each once. It doesn't matter in which order they came, or how often.
+abbrev pub in_order : List Entry → List Entry
+in_order [] = []
+in_order (e ∷ entries) = with_entry e (in_order entries)
+
 -- the entries directly below a directory, in order, each once
 abbrev pub listing : List MemFile → List ℕ → List Entry
 listing [] dir = []
@@ -50,10 +52,3 @@ listing (file ∷ files) dir = option_map_or (λ e. with_entry e (listing files 
 abbrev pub content : List MemFile → List ℕ → Option (List ℕ)
 content [] path = None
 content (file ∷ files) path = if bytes_eq file.path path then Some file.bytes else content files path
-
--- Only a failed call changes which call was the last to fail.
-abbrev pub KeepsLastFailed : {X : Type 0} → Result X TreeFault → Option Call → Option Call → Type 0
-KeepsLastFailed (Ok x) old new = new ≡ old
-KeepsLastFailed (Err Failed) old new = Unit {0}
-KeepsLastFailed (Err More) old new = new ≡ old
-KeepsLastFailed (Err NoMemory) old new = new ≡ old

@@ -1,8 +1,6 @@
-ghost use Rattle.std.specs.Prelude.{◌≡◌, ◌≤◌, List, ℕ, length, IfOk, IsPermutation};
-ghost use Rattle.std.specs.List.Sorted.{IsStrictlySortedBy};
+ghost use Rattle.std.specs.Prelude.{◌≡◌, ◌≤◌, length, IfOk};
 ghost use Rattle.std.specs.Option.{option_copied};
-ghost use Rattle.wf_io.specs.declared.tree.MemFile.{MemFile};
-ghost use Rattle.wf_io.specs.Tree.{rest_of, entry_at, entry_of, entry_cmp, listing};
+ghost use Rattle.wf_io.specs.Tree.{rest_of, entry_at, entry_of, in_order, listing};
 
 use crate::tree::{Entry, MemFile};
 use std::alloc::{AllocError, Global};
@@ -12,9 +10,7 @@ use wf_base::{Items, Text};
 /// Sorts the entries that a tree gave, and keeps each once, so that it no longer matters in which order
 /// the tree gave them.
 pub fn sorted(entries: Items<Entry>) -> Result<Items<Entry>, AllocError>
-    ensures listed { (files : List MemFile) (dir : List ℕ) → IsPermutation (listing files dir) entries →
-        IfOk result (λ sorted. sorted ≡ listing files dir) }
-    ensures rising { IfOk result (IsStrictlySortedBy entry_cmp) }
+    ensures order { IfOk result (λ sorted. sorted ≡ in_order entries) }
     ensures within { IfOk result (λ sorted. length sorted ≤ length entries) }
 {
     let mut entries = entries.into_vec();

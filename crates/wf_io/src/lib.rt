@@ -2,9 +2,10 @@
 //! with one of each in memory, and the adapters over real files.
 #![tactic(auto)]
 
+mod calls;
 mod entries;
 mod failing;
-mod failures;
+mod log;
 mod sink;
 mod sink_mem;
 mod std_sink;
@@ -14,10 +15,11 @@ mod tests;
 mod tree;
 mod tree_mem;
 
+pub use calls::Calls;
 pub use entries::sorted;
 pub use sink::{Sink, SinkFault};
 pub use sink_mem::SinkMem;
 pub use std_sink::StdSink;
 pub use std_tree::StdTree;
-pub use tree::{Call, Entry, MemFile, Tree, TreeFault};
+pub use tree::{Entry, MemFile, Tree, TreeFault};
 pub use tree_mem::TreeMem;

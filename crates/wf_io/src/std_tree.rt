@@ -1,9 +1,9 @@
-ghost use Rattle.std.specs.Prelude.{◌≡◌, ◌≤◌, None, length, IfOk};
+ghost use Rattle.std.specs.Prelude.{◌≡◌, ◌≤◌, [], length, IfOk};
 ghost use Rattle.std.specs.IoError.{error_kind};
-ghost use Rattle.wf_io.specs.RealFiles.{last_failed_of, failures_of};
+ghost use Rattle.wf_io.specs.RealFiles.{seen_of};
 
-use crate::failures::Failures;
-use crate::tree::{Call, Entry, Tree, TreeFault};
+use crate::calls::Calls;
+use crate::tree::{Entry, Tree, TreeFault};
 use std::alloc::{AllocError, Global};
 use std::io::{self, ErrorKind, Read};
 use std::rt::Files;
@@ -15,50 +15,35 @@ use wf_base::{Items, Text};
 #[derive(Drop)]
 pub struct StdTree<'a, R> {
     rt: &'a R,
-    failures: Failures,
+    calls: Calls,
 }
 
 impl<'a, R: Files> StdTree<'a, R> {
     pub fn new(rt: &'a R) -> StdTree<'a, R>
-        ensures last_failed { last_failed_of result ≡ None }
-        ensures faults { failures_of result ≡ 0 }
+        ensures { (seen_of result).log ≡ [] }
     {
         StdTree {
             rt,
-            failures: Failures::none(),
+            calls: Calls::none(),
         }
     }
 }
 
 impl<'a, R: Files + AllocGlobal + Clone + Drop> Tree for StdTree<'a, R> {
-    ghost told = { λ _. None };
-
-    ghost last_failed = { last_failed_of };
-
-    ghost count = { failures_of };
+    ghost seen = { seen_of };
 
     fn list(&mut self, alloc: Global, dir: &Text, most: u32) -> Result<Items<Entry>, TreeFault> {
-        match entries_in(self.rt, alloc, dir.as_slice(), most) {
-            Err(TreeFault::Failed) => {
-                let dir = Text::from_slice(alloc, dir.as_slice())?;
-                Err(self.failures.add(Call::List(dir)))
-            }
-            answer => answer,
-        }
+        let answer = entries_in(self.rt, alloc, dir.as_slice(), most);
+        self.calls.listed(dir, most, answer)
     }
 
     fn read(&mut self, alloc: Global, path: &Text, most: u32) -> Result<Text, TreeFault> {
-        match bytes_at(self.rt, alloc, path.as_slice(), most) {
-            Err(TreeFault::Failed) => {
-                let path = Text::from_slice(alloc, path.as_slice())?;
-                Err(self.failures.add(Call::Read(path)))
-            }
-            answer => answer,
-        }
+        let answer = bytes_at(self.rt, alloc, path.as_slice(), most);
+        self.calls.was_read(path, most, answer)
     }
 
     fn faults(&self) -> u64 {
-        self.failures.count
+        self.calls.failures()
     }
 }
 

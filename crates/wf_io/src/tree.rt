@@ -1,8 +1,5 @@
-ghost use Rattle.std.specs.Prelude.{◌≡◌, ◌<◌, ◌≤◌, ℕ, List, Option, Some, length, IfOk, IsErrOf, IsPermutation, IsSomeAnd};
-ghost use Rattle.wf_io.specs.declared.tree.MemFile.{MemFile};
-ghost use Rattle.wf_io.specs.declared.tree.Call.{Call};
-ghost use Rattle.wf_io.specs.Tree.{listing, content, KeepsLastFailed};
-ghost use Rattle.wf_io.specs.Faults.{Rose};
+ghost use Rattle.std.specs.Prelude.{◌≡◌, ◌≤◌, length, IfOk};
+ghost use Rattle.wf_io.specs.Log.{Seen, Listed, WasRead, Logs, failures};
 
 use std::alloc::{AllocError, Global};
 use wf_base::{Items, Text};
@@ -20,13 +17,6 @@ pub struct MemFile {
 pub struct Entry {
     pub name: Text,
     pub is_dir: bool,
-}
-
-/// A call of a tree, by its path.
-#[derive(Debug, Drop)]
-pub enum Call {
-    List(Text),
-    Read(Text),
 }
 
 /// Why a tree gives nothing.
@@ -49,46 +39,25 @@ impl From<AllocError> for TreeFault {
     }
 }
 
-/// A tree of files. It may tell its files, as a list of which the first of two with one path counts; a
-/// tree of real files tells nothing. Beside them it tells its last failed call, and how many calls have
-/// failed.
+/// A tree of files. It tells the calls that were made of it, each with its answer, and it may tell its files,
+/// as a list of which the first of two with one path counts; a tree of real files tells none. Where it tells
+/// them, it answers `More` exactly where there is more than was asked for. How many calls failed, and which
+/// was the last, is read off its calls.
 pub trait Tree {
-    /// The files, where they are told.
-    ghost told: { Self → Option (List MemFile) };
-
-    /// The last call that failed, if any.
-    ghost last_failed: { Self → Option Call };
-
-    /// How many calls have failed, up to the greatest number of 64 bits.
-    ghost count: { Self → ℕ };
+    /// The files, where they are told, and the calls that were made.
+    ghost seen: { Self → Seen };
 
     /// The entries directly below a directory, each once, in any order: at most `most`.
     fn list(&mut self, alloc: Global, dir: &Text, most: u32) -> Result<Items<Entry>, TreeFault>
-        ensures listed { (files : List MemFile) → told self.old ≡ Some files →
-            IfOk result (λ entries. IsPermutation (listing files dir.now) entries) }
-        ensures within { IfOk result (λ entries. length entries ≤ most) }
-        ensures more { (files : List MemFile) → told self.old ≡ Some files →
-            IsErrOf result TreeFault.More → most < length (listing files dir.now) }
-        ensures rose { IsErrOf result TreeFault.Failed → Rose (count self.old) (count self.new) }
-        ensures failed { IsErrOf result TreeFault.Failed → last_failed self.new ≡ Some (Call.List dir.now) }
-        ensures kept { KeepsLastFailed result (last_failed self.old) (last_failed self.new) }
-        ensures same { told self.new ≡ told self.old }
-        ensures grows { count self.old ≤ count self.new };
+        ensures logged { Logs (Listed dir.now most result) (seen self.old) (seen self.new) }
+        ensures within { IfOk result (λ entries. length entries ≤ most) };
 
     /// The bytes of a file: at most `most`.
     fn read(&mut self, alloc: Global, path: &Text, most: u32) -> Result<Text, TreeFault>
-        ensures bytes { (files : List MemFile) → told self.old ≡ Some files →
-            IfOk result (λ bytes. content files path.now ≡ Some bytes) }
-        ensures within { IfOk result (λ bytes. length bytes ≤ most) }
-        ensures more { (files : List MemFile) → told self.old ≡ Some files → IsErrOf result TreeFault.More →
-            IsSomeAnd (content files path.now) (λ bytes. most < length bytes) }
-        ensures rose { IsErrOf result TreeFault.Failed → Rose (count self.old) (count self.new) }
-        ensures failed { IsErrOf result TreeFault.Failed → last_failed self.new ≡ Some (Call.Read path.now) }
-        ensures kept { KeepsLastFailed result (last_failed self.old) (last_failed self.new) }
-        ensures same { told self.new ≡ told self.old }
-        ensures grows { count self.old ≤ count self.new };
+        ensures logged { Logs (WasRead path.now most result) (seen self.old) (seen self.new) }
+        ensures within { IfOk result (λ bytes. length bytes ≤ most) };
 
-    /// How many calls have failed.
+    /// How many calls have failed, up to the greatest number of 64 bits.
     fn faults(&self) -> u64
-        ensures { result ≡ count self.now };
+        ensures { result ≡ failures (seen self.now).log };
 }

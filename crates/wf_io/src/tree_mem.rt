@@ -1,24 +1,23 @@
-ghost use Rattle.std.specs.Prelude.{◌≡◌, ◌≢◌, ◌≤◌, ◌<◌, ◌⊎◌, None, Some, length, IfOk, IsErrOf, IsSomeAnd};
+ghost use Rattle.std.specs.Prelude.{◌≡◌, ◌≢◌, ◌≤◌, ◌<◌, ◌⊎◌, None, Some, Err, [], length, IfOk, IsErrOf, IsSomeAnd};
 ghost use Rattle.std.specs.Option.{option_copied};
-ghost use Rattle.wf_io.specs.declared.tree.Call.{Call};
-ghost use Rattle.wf_io.specs.Faults.{Rose};
-ghost use Rattle.wf_io.specs.InMemory.{files_of, last_failed_of, failures_of, failing_calls, numbers_from, after_one, FailsNext};
-ghost use Rattle.wf_io.specs.Tree.{listing, content, KeepsLastFailed};
+ghost use Rattle.wf_io.specs.InMemory.{files_of, seen_of, failing_calls, numbers_from, after_one, FailsNext};
+ghost use Rattle.wf_io.specs.Log.{Listed, WasRead, Logs};
+ghost use Rattle.wf_io.specs.Tree.{listing, content};
 
+use crate::calls::Calls;
 use crate::entries::entries_below;
 use crate::failing::Failing;
-use crate::failures::Failures;
-use crate::tree::{Call, Entry, MemFile, Tree, TreeFault};
+use crate::tree::{Entry, MemFile, Tree, TreeFault};
 use std::alloc::Global;
 use wf_base::{Items, Text};
 
 /// A tree in memory, which fails where it is told to. Its calls are numbered from 0 in the order in which
 /// they are made, `list` and `read` together, whatever they answer.
-#[derive(Debug, Drop)]
+#[derive(Drop)]
 pub struct TreeMem {
     files: Items<MemFile>,
     failing: Failing,
-    failures: Failures,
+    calls: Calls,
 }
 
 impl TreeMem {
@@ -26,76 +25,55 @@ impl TreeMem {
     pub fn new(files: Items<MemFile>, failing: Items<u64>) -> TreeMem
         ensures files { files_of result ≡ files }
         ensures failing { failing_calls result ≡ numbers_from failing 0 }
-        ensures last_failed { last_failed_of result ≡ None }
-        ensures faults { failures_of result ≡ 0 }
+        ensures none_made { (seen_of result).log ≡ [] }
     {
         TreeMem {
             files,
             failing: Failing::new(failing),
-            failures: Failures::none(),
+            calls: Calls::none(),
         }
     }
 }
 
 impl Tree for TreeMem {
-    ghost told = { λ t. Some (files_of t) };
-
-    ghost last_failed = { last_failed_of };
-
-    ghost count = { failures_of };
+    ghost seen = { seen_of };
 
     fn list(&mut self, alloc: Global, dir: &Text, most: u32) -> Result<Items<Entry>, TreeFault>
-        ensures listed { IfOk result (λ entries. entries ≡ listing (files_of self.old) dir.now) }
+        ensures logged { Logs (Listed dir.now most result) (seen_of self.old) (seen_of self.new) }
         ensures within { IfOk result (λ entries. length entries ≤ most) }
-        ensures more { IsErrOf result TreeFault.More → most < length (listing (files_of self.old) dir.now) }
-        ensures rose { IsErrOf result TreeFault.Failed → Rose (failures_of self.old) (failures_of self.new) }
-        ensures failed { IsErrOf result TreeFault.Failed → last_failed_of self.new ≡ Some (Call.List dir.now) }
-        ensures kept { KeepsLastFailed result (last_failed_of self.old) (last_failed_of self.new) }
-        ensures same { files_of self.new ≡ files_of self.old }
-        ensures grows { failures_of self.old ≤ failures_of self.new }
 
-        // The calls that fail are those that are told to.
+        // The entries come in order. The calls that fail are those that are told to.
+        ensures in_order { IfOk result (λ entries. entries ≡ listing (files_of self.old) dir.now) }
         ensures only { IsErrOf result TreeFault.Failed → FailsNext (failing_calls self.old) }
-        ensures always { FailsNext (failing_calls self.old) →
-            IsErrOf result TreeFault.Failed ⊎ IsErrOf result TreeFault.NoMemory }
+        ensures always { FailsNext (failing_calls self.old) → result ≡ Err TreeFault.Failed }
         ensures counted { failing_calls self.new ≡ after_one (failing_calls self.old) }
     {
         if self.failing.fails_next() {
-            let dir = Text::from_slice(alloc, dir.as_slice())?;
-            return Err(self.failures.add(Call::List(dir)));
+            return self.calls.listed(dir, most, Err(TreeFault::Failed));
         }
-        listed(alloc, self.files.as_slice(), dir.as_slice(), most)
+        let answer = listed(alloc, self.files.as_slice(), dir.as_slice(), most);
+        self.calls.listed(dir, most, answer)
     }
 
     fn read(&mut self, alloc: Global, path: &Text, most: u32) -> Result<Text, TreeFault>
-        ensures bytes { IfOk result (λ bytes. content (files_of self.old) path.now ≡ Some bytes) }
+        ensures logged { Logs (WasRead path.now most result) (seen_of self.old) (seen_of self.new) }
         ensures within { IfOk result (λ bytes. length bytes ≤ most) }
-        ensures more { IsErrOf result TreeFault.More →
-            IsSomeAnd (content (files_of self.old) path.now) (λ bytes. most < length bytes) }
-        ensures rose { IsErrOf result TreeFault.Failed → Rose (failures_of self.old) (failures_of self.new) }
-        ensures failed { IsErrOf result TreeFault.Failed → last_failed_of self.new ≡ Some (Call.Read path.now) }
-        ensures kept { KeepsLastFailed result (last_failed_of self.old) (last_failed_of self.new) }
-        ensures same { files_of self.new ≡ files_of self.old }
-        ensures grows { failures_of self.old ≤ failures_of self.new }
 
         // The calls that fail are those that are told to, and those of a path that isn't there.
         ensures only { IsErrOf result TreeFault.Failed →
             FailsNext (failing_calls self.old) ⊎ (content (files_of self.old) path.now ≡ None) }
-        ensures always { FailsNext (failing_calls self.old) →
-            IsErrOf result TreeFault.Failed ⊎ IsErrOf result TreeFault.NoMemory }
+        ensures always { FailsNext (failing_calls self.old) → result ≡ Err TreeFault.Failed }
         ensures counted { failing_calls self.new ≡ after_one (failing_calls self.old) }
     {
-        if !self.failing.fails_next() {
-            if let Some(bytes) = found(self.files.as_slice(), path.as_slice()) {
-                return copied(alloc, bytes, most);
-            }
+        if self.failing.fails_next() {
+            return self.calls.was_read(path, most, Err(TreeFault::Failed));
         }
-        let path = Text::from_slice(alloc, path.as_slice())?;
-        Err(self.failures.add(Call::Read(path)))
+        let answer = read_of(alloc, self.files.as_slice(), path.as_slice(), most);
+        self.calls.was_read(path, most, answer)
     }
 
     fn faults(&self) -> u64 {
-        self.failures.count
+        self.calls.failures()
     }
 }
 
@@ -117,6 +95,19 @@ fn listed(
     }
     let entries = entries.into_iter().collect(alloc)?;
     Ok(Items::from_vec(entries))
+}
+
+/// The bytes of the first file with this path, at most `most`.
+fn read_of(alloc: Global, files: &[MemFile], path: &[u8], most: u32) -> Result<Text, TreeFault>
+    ensures bytes { IfOk result (λ bytes. content files.now path.now ≡ Some bytes) }
+    ensures within { IfOk result (λ bytes. length bytes ≤ most) }
+    ensures more { IsErrOf result TreeFault.More → IsSomeAnd (content files.now path.now) (λ bytes. most < length bytes) }
+    ensures absent { IsErrOf result TreeFault.Failed → content files.now path.now ≡ None }
+{
+    let Some(bytes) = found(files, path) else {
+        return Err(TreeFault::Failed);
+    };
+    copied(alloc, bytes, most)
 }
 
 /// A copy of the bytes, at most `most`.

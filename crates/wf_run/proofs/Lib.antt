@@ -1,5 +1,0 @@
-pub mod EachLaws
-pub mod FaultLaws
-mod WalkLaws
-pub mod MadeLaws
-pub mod StopLaws

@@ -1,0 +1,5 @@
+pub mod Due
+pub mod Every
+pub mod Faults
+pub mod Lines
+pub mod Run
