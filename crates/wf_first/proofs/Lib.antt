@@ -1,4 +1,5 @@
 mod CodeLaws
+mod Strip
 mod ListLaws
 mod PassLaws
 pub mod FormKept

@@ -9,9 +9,9 @@ use Rattle.std.proofs.lemmas.List.Sorted.{Contains-permutation, IsPermutation-sy
 use Rattle.std.proofs.lemmas.List.Kept.{IsStrictlySortedBy-dedup, Contains-dedup, Contains-from_dedup}
 use Rattle.std.specs.Str.{bytes_eq}
 use Rattle.std.proofs.lemmas.Slice.Eq.{bytes_eq-Decides}
-use Rattle.wf_base.specs.declared.member.MemberName.{MemberName}
-use Rattle.wf_base.specs.Members.{same_member}
-use Rattle.wf_base.specs.NameForm.{member_of}
+use Rattle.wf_names.specs.declared.member.MemberName.{MemberName}
+use Rattle.wf_names.specs.Members.{same_member}
+use Rattle.wf_names.specs.NameForm.{member_of}
 use Rattle.wf_first.proofs.ListLaws.{and_both}
 use Rattle.wf_sys.specs.Names.{Lists, member_cmp}
 

@@ -8,13 +8,14 @@ use Rattle.std.proofs.lemmas.List.{map-append, length-map, get_or-map, get_or_pa
 use Rattle.std.proofs.lemmas.List.Elements.{All-map, Contains-get_or, Contains-append_left, Contains-push}
 use Rattle.std.proofs.lemmas.Option.{slice_get-map}
 use Rattle.std.proofs.lemmas.Slice.Eq.{bytes_eq-Decides}
-use Rattle.wf_base.specs.declared.class_info.ClassInfo.{ClassInfo}
-use Rattle.wf_base.specs.declared.class_info.CodeInfo.{CodeInfo}
-use Rattle.wf_base.specs.declared.class_info.MethodInfo.{MethodInfo}
-use Rattle.wf_base.specs.declared.class_info.PoolEntry.{PoolEntry}
-use Rattle.wf_base.specs.declared.member.MemberName.{MemberName}
-use Rattle.wf_base.specs.ClassFile.{is_interface, method_at}
-use Rattle.wf_base.specs.Members.{same_member}
+use Rattle.wf_data.specs.declared.class_info.ClassInfo.{ClassInfo}
+use Rattle.wf_data.specs.declared.class_info.CodeInfo.{CodeInfo}
+use Rattle.wf_data.specs.declared.class_info.MethodInfo.{MethodInfo}
+use Rattle.wf_data.specs.declared.class_info.PoolEntry.{PoolEntry}
+use Rattle.wf_names.specs.declared.member.MemberName.{MemberName}
+use Rattle.wf_data.specs.Flags.{is_interface}
+use Rattle.wf_data.specs.Pool.{method_at}
+use Rattle.wf_names.specs.Members.{same_member}
 use Rattle.wf_first.specs.declared.code.Operation.{Operation}
 use Rattle.wf_first.specs.declared.code.Operation.TheVariants.{IntConstant, InvokeStatic, IntReturn, Return}
 use Rattle.wf_first.specs.declared.code.Placed.{Placed}

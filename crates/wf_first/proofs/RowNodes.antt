@@ -6,12 +6,12 @@ use Rattle.std.specs.Str.{bytes_eq}
 use Rattle.std.proofs.lemmas.List.Elements.{Contains-append_cases, Contains-append_left, Contains-append_right}
 use Rattle.std.proofs.lemmas.Option.{slice_get_within, get_or_from_slice_get}
 use Rattle.std.proofs.lemmas.Slice.Eq.{bytes_eq-Decides}
-use Rattle.wf_base.specs.declared.class_info.ClassInfo.{ClassInfo}
-use Rattle.wf_base.specs.declared.class_info.MethodInfo.{MethodInfo}
-use Rattle.wf_base.specs.declared.class_info.PoolEntry.{PoolEntry}
-use Rattle.wf_base.specs.declared.member.MemberName.{MemberName}
-use Rattle.wf_base.specs.ClassFile.{is_interface, is_static}
-use Rattle.wf_base.specs.Names.{object_name}
+use Rattle.wf_data.specs.declared.class_info.ClassInfo.{ClassInfo}
+use Rattle.wf_data.specs.declared.class_info.MethodInfo.{MethodInfo}
+use Rattle.wf_data.specs.declared.class_info.PoolEntry.{PoolEntry}
+use Rattle.wf_names.specs.declared.member.MemberName.{MemberName}
+use Rattle.wf_data.specs.Flags.{is_interface, is_static}
+use Rattle.wf_names.specs.Names.{object_name}
 use Rattle.wf_first.specs.declared.code.Operation.{Operation}
 use Rattle.wf_first.specs.declared.code.Operation.TheVariants.{IntConstant, InvokeStatic}
 use Rattle.wf_first.specs.declared.code.Placed.{Placed}

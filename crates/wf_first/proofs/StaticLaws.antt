@@ -4,14 +4,15 @@ use Rattle.std.specs.Prelude.{if◌then◌else◌}
 use Rattle.std.specs.List.{list_any, list_all}
 use Rattle.std.proofs.lemmas.List.{map-append, at_drop_more}
 use Rattle.std.proofs.lemmas.List.Folds.{list_any-append}
-use Rattle.wf_base.specs.declared.class_info.ClassInfo.{ClassInfo}
-use Rattle.wf_base.specs.declared.class_info.CodeInfo.{CodeInfo}
-use Rattle.wf_base.specs.declared.class_info.MethodInfo.{MethodInfo}
-use Rattle.wf_base.specs.declared.class_info.PoolEntry.{PoolEntry}
-use Rattle.wf_base.specs.declared.member.MemberName.{MemberName}
-use Rattle.wf_base.specs.declared.member.MemberRef.{MemberRef}
-use Rattle.wf_base.specs.ClassFile.{is_static, method_at}
-use Rattle.wf_base.specs.Members.{named_by, same_member}
+use Rattle.wf_data.specs.declared.class_info.ClassInfo.{ClassInfo}
+use Rattle.wf_data.specs.declared.class_info.CodeInfo.{CodeInfo}
+use Rattle.wf_data.specs.declared.class_info.MethodInfo.{MethodInfo}
+use Rattle.wf_data.specs.declared.class_info.PoolEntry.{PoolEntry}
+use Rattle.wf_names.specs.declared.member.MemberName.{MemberName}
+use Rattle.wf_names.specs.declared.member.MemberRef.{MemberRef}
+use Rattle.wf_data.specs.Flags.{is_static}
+use Rattle.wf_data.specs.Pool.{method_at}
+use Rattle.wf_names.specs.Members.{named_by, same_member}
 use Rattle.wf_first.proofs.ListLaws.{any_map}
 use Rattle.wf_first.proofs.MemberLists.{member_is}
 use Rattle.wf_first.specs.declared.code.Operation.{Operation}

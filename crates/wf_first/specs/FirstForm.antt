@@ -3,13 +3,14 @@
 use Rattle.std.specs.Prelude.{ℕ, ◌+◌, Bool, true, false, not, ◌&&◌, ◌||◌, List, [], ◌∷◌, Option, Some, None, ◌==◌, nat_le, nat_lt, nat_eq, length, is_some, codes, if◌then◌else◌}
 use Rattle.std.specs.List.{list_all, starts_with}
 use Rattle.std.specs.Str.{bytes_eq}
-use Rattle.wf_base.specs.declared.class_info.ClassInfo.{ClassInfo}
-use Rattle.wf_base.specs.declared.class_info.CodeInfo.{CodeInfo}
-use Rattle.wf_base.specs.declared.class_info.MethodInfo.{MethodInfo}
-use Rattle.wf_base.specs.declared.class_info.PoolEntry.{PoolEntry}
-use Rattle.wf_base.specs.declared.member.MemberName.{MemberName}
-use Rattle.wf_base.specs.ClassFile.{is_static, is_interface, method_at}
-use Rattle.wf_base.specs.Names.{object_name, constructor_name, initializer_name}
+use Rattle.wf_data.specs.declared.class_info.ClassInfo.{ClassInfo}
+use Rattle.wf_data.specs.declared.class_info.CodeInfo.{CodeInfo}
+use Rattle.wf_data.specs.declared.class_info.MethodInfo.{MethodInfo}
+use Rattle.wf_data.specs.declared.class_info.PoolEntry.{PoolEntry}
+use Rattle.wf_names.specs.declared.member.MemberName.{MemberName}
+use Rattle.wf_data.specs.Flags.{is_static, is_interface}
+use Rattle.wf_data.specs.Pool.{method_at}
+use Rattle.wf_names.specs.Names.{object_name, constructor_name, initializer_name}
 use Rattle.wf_first.specs.declared.code.Operation.{Operation}
 use Rattle.wf_first.specs.declared.code.Operation.TheVariants.{IntConstant, InvokeStatic, IntReturn, Return}
 use Rattle.wf_first.specs.declared.code.Placed.{Placed}

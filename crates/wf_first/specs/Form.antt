@@ -1,7 +1,7 @@
 -- Programs of the first form.
 use Rattle.std.specs.Prelude.{◌≡◌, true, List, Contains}
-use Rattle.wf_base.specs.declared.class_info.ClassInfo.{ClassInfo}
-use Rattle.wf_base.specs.declared.member.MemberName.{MemberName}
+use Rattle.wf_data.specs.declared.class_info.ClassInfo.{ClassInfo}
+use Rattle.wf_names.specs.declared.member.MemberName.{MemberName}
 use Rattle.wf_first.specs.FirstForm.{is_first_form}
 use Rattle.wf_sys.specs.Program.{DeclaresStatic}
 use Rattle.wf_first.specs.Calls.{calls_are_known}

@@ -1,4 +1,5 @@
 pub mod Code
+pub mod Stripping
 pub mod FirstForm
 pub mod Form
 pub mod Roots

@@ -2,12 +2,12 @@
 use Rattle.std.specs.Prelude.{ℕ, ◌+◌, Bool, not, ◌&&◌, List, [], ◌∷◌, ◌++◌, Option, Some, None, nat_lt, nat_eq, length, take, ◌-◌, codes, count_by, if◌then◌else◌}
 use Rattle.std.specs.List.{ends_with, list_any}
 use Rattle.std.specs.Str.{bytes_eq}
-use Rattle.wf_base.specs.declared.class_info.ClassInfo.{ClassInfo}
-use Rattle.wf_base.specs.declared.class_info.MethodInfo.{MethodInfo}
-use Rattle.wf_base.specs.declared.member.MemberName.{MemberName}
-use Rattle.wf_base.specs.ClassFile.{has_flag, is_static}
-use Rattle.wf_base.specs.NameForm.{member_text}
-use Rattle.wf_base.specs.Names.{object_name}
+use Rattle.wf_data.specs.declared.class_info.ClassInfo.{ClassInfo}
+use Rattle.wf_data.specs.declared.class_info.MethodInfo.{MethodInfo}
+use Rattle.wf_names.specs.declared.member.MemberName.{MemberName}
+use Rattle.wf_data.specs.Flags.{has_flag, is_static}
+use Rattle.wf_names.specs.NameForm.{member_text}
+use Rattle.wf_names.specs.Names.{object_name}
 use Rattle.wf_sys.specs.Names.{method_name}
 use Rattle.wf_first.specs.declared.limits.TheConstants.{MAX_TYPES, MAX_METHODS, MAX_NODES}
 use Rattle.wf_first.specs.Nodes.{nodes_of}

@@ -2,12 +2,13 @@
 -- kind, by a function that gives the node of a name: for the names themselves, and for their numbers.
 use Rattle.std.specs.Prelude.{◌≡◌, ℕ, ℤ, List, [], ◌∷◌, ◌++◌, Option, Some, None, codes, Contains, if◌then◌else◌}
 use Rattle.std.specs.Str.{bytes_eq}
-use Rattle.wf_base.specs.declared.class_info.ClassInfo.{ClassInfo}
-use Rattle.wf_base.specs.declared.class_info.CodeInfo.{CodeInfo}
-use Rattle.wf_base.specs.declared.class_info.MethodInfo.{MethodInfo}
-use Rattle.wf_base.specs.declared.class_info.PoolEntry.{PoolEntry}
-use Rattle.wf_base.specs.declared.member.MemberName.{MemberName}
-use Rattle.wf_base.specs.ClassFile.{is_interface, method_at}
+use Rattle.wf_data.specs.declared.class_info.ClassInfo.{ClassInfo}
+use Rattle.wf_data.specs.declared.class_info.CodeInfo.{CodeInfo}
+use Rattle.wf_data.specs.declared.class_info.MethodInfo.{MethodInfo}
+use Rattle.wf_data.specs.declared.class_info.PoolEntry.{PoolEntry}
+use Rattle.wf_names.specs.declared.member.MemberName.{MemberName}
+use Rattle.wf_data.specs.Flags.{is_interface}
+use Rattle.wf_data.specs.Pool.{method_at}
 use Rattle.wf_first.specs.declared.code.Operation.{Operation}
 use Rattle.wf_first.specs.declared.code.Operation.TheVariants.{IntConstant, InvokeStatic, IntReturn, Return}
 use Rattle.wf_first.specs.declared.code.Placed.{Placed}

@@ -1,8 +1,8 @@
 -- Assignments to the numbered nodes of a program, and what is read off them.
 use Rattle.std.specs.Prelude.{List, [], ◌∷◌, ◌++◌, length, slice_set, replicate, if◌then◌else◌}
-use Rattle.wf_base.specs.declared.class_info.ClassInfo.{ClassInfo}
-use Rattle.wf_base.specs.declared.class_info.MethodInfo.{MethodInfo}
-use Rattle.wf_base.specs.declared.member.MemberName.{MemberName}
+use Rattle.wf_data.specs.declared.class_info.ClassInfo.{ClassInfo}
+use Rattle.wf_data.specs.declared.class_info.MethodInfo.{MethodInfo}
+use Rattle.wf_names.specs.declared.member.MemberName.{MemberName}
 use Rattle.wf_sys.specs.declared.flow.Flow.{Flow}
 use Rattle.wf_sys.specs.declared.flow.Flow.TheVariants.{Empty, Set}
 use Rattle.wf_sys.specs.Assignments.{value_at}

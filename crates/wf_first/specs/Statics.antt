@@ -1,6 +1,6 @@
 -- Lists of methods that are used as sets.
 use Rattle.std.specs.Prelude.{◌≡◌, List}
-use Rattle.wf_base.specs.declared.member.MemberName.{MemberName}
+use Rattle.wf_names.specs.declared.member.MemberName.{MemberName}
 use Rattle.wf_first.specs.Calls.{has_member}
 
 -- two lists have the same members

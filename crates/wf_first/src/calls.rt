@@ -2,7 +2,7 @@
 
 ghost use Rattle.std.specs.Prelude.{◌≡◌, ◌++◌, ◌∷◌, [], OnOk, IfOk, if◌then◌else◌};
 ghost use Rattle.std.specs.List.{list_all};
-ghost use Rattle.wf_base.specs.Members.{named_by};
+ghost use Rattle.wf_names.specs.Members.{named_by};
 ghost use Rattle.wf_first.specs.Calls.{statics_in, statics_of, has_member, calls_known, code_calls_known, class_calls_known, calls_are_known};
 ghost use Rattle.wf_first.specs.Statics.{HaveSame};
 
@@ -11,8 +11,9 @@ use crate::program::method_ref;
 use indexmap::IndexSet;
 use std::alloc::{AllocError, Global};
 use std::marker::Model;
-use wf_base::{ClassInfo, CodeInfo, MemberRef, MethodInfo, PoolEntry, is_static};
 use wf_constpool::method_at;
+use wf_data::{ClassInfo, CodeInfo, MethodInfo, PoolEntry, is_static};
+use wf_names::MemberRef;
 
 /// The static methods of a program, each once.
 #[derive(Drop)]
@@ -22,8 +23,8 @@ struct Statics<'p> {
 
 impl<'p> Model for Statics<'p> {
     ghost use Rattle.std.specs.Prelude.{List, map};
-    ghost use Rattle.wf_base.specs.declared.member.MemberName.{MemberName};
-    ghost use Rattle.wf_base.specs.Members.{named_by};
+    ghost use Rattle.wf_names.specs.declared.member.MemberName.{MemberName};
+    ghost use Rattle.wf_names.specs.Members.{named_by};
 
     ghost Value = { List MemberName };
 

@@ -3,16 +3,15 @@
 ghost use Rattle.std.specs.Prelude.{◌≡◌, ◌==◌, ◌<◌, Some, length, codes, IfOk};
 ghost use Rattle.std.specs.List.{list_all};
 ghost use Rattle.std.specs.Str.{bytes_eq};
-ghost use Rattle.wf_base.specs.ClassFile.{method_at};
+ghost use Rattle.wf_data.specs.Pool.{method_at};
 ghost use Rattle.wf_first.specs.FirstForm.{is_ordinary, is_kind_of_form, is_step_of_form, pushed_by, depth_after, is_rest_of_form, are_of_form, is_code_of_form, is_method_of_form, is_super_of_form, is_class_of_form, is_first_form};
 
 use crate::code::{Operation, Placed, operations};
 use std::alloc::{AllocError, Global};
-use wf_base::{
-    ClassInfo, CodeInfo, MethodInfo, PoolEntry, Text, is_constructor_name, is_initializer_name,
-    is_interface, is_object_name, is_static,
-};
+use wf_base::Text;
 use wf_constpool::method_at;
+use wf_data::{ClassInfo, CodeInfo, MethodInfo, PoolEntry, is_interface, is_static};
+use wf_names::{is_constructor_name, is_initializer_name, is_object_name};
 
 /// Whether no method of a class of this name is refused by its name.
 fn is_ordinary(name: &[u8]) -> bool

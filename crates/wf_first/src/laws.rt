@@ -1,6 +1,6 @@
 ghost use Rattle.std.specs.Prelude.{◌↔◌, List, Contains};
-ghost use Rattle.wf_base.specs.declared.class_info.ClassInfo.{ClassInfo};
-ghost use Rattle.wf_base.specs.declared.member.MemberName.{MemberName};
+ghost use Rattle.wf_data.specs.declared.class_info.ClassInfo.{ClassInfo};
+ghost use Rattle.wf_names.specs.declared.member.MemberName.{MemberName};
 ghost use Rattle.wf_sys.specs.declared.inequality.Inequality.{Inequality};
 ghost use Rattle.wf_sys.specs.Nodes.{Node};
 ghost use Rattle.wf_sys.specs.Program.{Row};

@@ -14,7 +14,9 @@ use crate::program::{Program, method_ref};
 use crate::rows::rows_of;
 use crate::solver::{solve, value_at};
 use std::alloc::{AllocError, Global};
-use wf_base::{ClassInfo, Items, MemberName, World};
+use wf_base::Items;
+use wf_data::ClassInfo;
+use wf_names::{MemberName, World};
 use wf_sys::{Flow, tests_decide};
 
 /// The least solution for a program, as the values of its numbered nodes.

@@ -8,6 +8,7 @@ mod form;
 mod laws;
 mod least;
 mod limits;
+mod member_text;
 mod nodes;
 mod program;
 mod rows;

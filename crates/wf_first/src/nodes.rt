@@ -1,9 +1,9 @@
 //! The numbers of the nodes of a program's system.
 
 ghost use Rattle.std.specs.Prelude.{◌≡◌, ◌+◌, min, [], ◌∷◌, not, nat_lt, length, slice_set, IfOk, OnOk};
-ghost use Rattle.wf_base.specs.declared.member.MemberName.{MemberName};
-ghost use Rattle.wf_base.specs.ClassFile.{is_static};
-ghost use Rattle.wf_base.specs.Members.{named_by};
+ghost use Rattle.wf_names.specs.declared.member.MemberName.{MemberName};
+ghost use Rattle.wf_data.specs.Flags.{is_static};
+ghost use Rattle.wf_names.specs.Members.{named_by};
 ghost use Rattle.wf_sys.specs.declared.flow.Flow.TheVariants.{Set};
 ghost use Rattle.wf_first.specs.Nodes.{node_of, place_of, with_node, with_nodes, receiver_nodes, method_nodes, shared_nodes, result_nodes, code_nodes, own_method_nodes, own_nodes, nodes_of};
 ghost use Rattle.wf_first.specs.Solution.{seeded};
@@ -14,7 +14,8 @@ use crate::program::method_ref;
 use indexmap::IndexSet;
 use std::alloc::{AllocError, Global};
 use std::marker::Model;
-use wf_base::{ClassInfo, CodeInfo, MemberName, MemberRef, MethodInfo, is_static};
+use wf_data::{ClassInfo, CodeInfo, MethodInfo, is_static};
+use wf_names::{MemberName, MemberRef};
 use wf_sys::Flow;
 
 /// A node of the system, by borrowed names.

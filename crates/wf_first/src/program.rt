@@ -1,14 +1,17 @@
 ghost use Rattle.std.specs.Prelude.{◌≡◌, ◌++◌, ◌<◌, List, Some, not, nat_lt, codes, count_by, length, IfOk, IfErr};
 ghost use Rattle.std.specs.Str.{bytes_eq};
 ghost use Rattle.wf_sys.specs.Names.{method_name};
-ghost use Rattle.wf_base.specs.Members.{named_by};
-ghost use Rattle.wf_base.specs.NameForm.{member_of};
+ghost use Rattle.wf_names.specs.Members.{named_by};
+ghost use Rattle.wf_names.specs.NameForm.{member_of};
 ghost use Rattle.wf_first.specs.Roots.{has_object, only_line, root_line, root_among, root_in, is_concrete, methods_in, is_within_limits};
 
 use crate::limits::{MAX_METHODS, MAX_TYPES};
+use crate::member_text::is_member_text;
 use crate::nodes::has_few_nodes;
 use std::alloc::{AllocError, Global};
-use wf_base::{ClassInfo, Items, MemberName, MemberRef, MethodInfo, is_member_text, is_static};
+use wf_base::Items;
+use wf_data::{ClassInfo, MethodInfo, is_static};
+use wf_names::{MemberName, MemberRef};
 
 /// The classes of a program, and the static method that is its root.
 #[derive(Debug, Drop)]

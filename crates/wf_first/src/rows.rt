@@ -2,7 +2,7 @@
 
 ghost use Rattle.std.specs.Prelude.{◌≡◌, ◌++◌, ◌∷◌, [], Some, None, codes, OnOk, IfOk, if◌then◌else◌};
 ghost use Rattle.std.specs.Str.{bytes_eq};
-ghost use Rattle.wf_base.specs.Members.{named_by};
+ghost use Rattle.wf_names.specs.Members.{named_by};
 ghost use Rattle.wf_sys.specs.Program.{top_of};
 ghost use Rattle.wf_first.specs.Nodes.{place_of};
 ghost use Rattle.wf_first.specs.Rows.{token_row, constant_row, copy_row, call_rows, return_rows, rows_at, behind, found_rows, code_rows, method_rows, super_rows, rows_of};
@@ -12,8 +12,9 @@ use crate::nodes::{NodeKey, Nodes};
 use crate::program::method_ref;
 use std::alloc::{AllocError, Global};
 use std::marker::Model;
-use wf_base::{ClassInfo, CodeInfo, MemberRef, PoolEntry, is_interface};
 use wf_constpool::method_at;
+use wf_data::{ClassInfo, CodeInfo, PoolEntry, is_interface};
+use wf_names::MemberRef;
 use wf_sys::{Guard, Inequality, ValueOp};
 
 /// What is known before a place of a code, by the numbers of the nodes.

@@ -1,5 +1,5 @@
 use Rattle.std.proofs.Common.{◌∷◌, []}
-use Rattle.wf_base.specs.declared.class_info.MethodInfo.{MethodInfo}
+use Rattle.wf_data.specs.declared.class_info.MethodInfo.{MethodInfo}
 use Rattle.wf_first.specs.Calls.{statics_in}
 use Rattle.wf_first.proofs.StaticLaws.{gathered_next, one_before}
 use Rattle.wf_first.proofs.calls.add_statics.Goals as goal

@@ -1,6 +1,6 @@
 use Rattle.std.proofs.Common.{◌≡◌, drop}
 use Rattle.std.specs.List.{list_all}
-use Rattle.wf_base.specs.declared.class_info.MethodInfo.{MethodInfo}
+use Rattle.wf_data.specs.declared.class_info.MethodInfo.{MethodInfo}
 use Rattle.wf_first.specs.Calls.{code_calls_known, class_calls_known}
 use Rattle.wf_first.proofs.calls.class_calls_known.Given as goal
 

@@ -1,5 +1,5 @@
 use Rattle.std.proofs.Common.{refl}
-use Rattle.wf_base.specs.declared.class_info.ClassInfo.{ClassInfo}
+use Rattle.wf_data.specs.declared.class_info.ClassInfo.{ClassInfo}
 use Rattle.wf_first.specs.Calls.{statics_in, statics_of}
 use Rattle.wf_first.proofs.StaticLaws.{gathered_next}
 use Rattle.wf_first.proofs.calls.statics_of.Goals as goal

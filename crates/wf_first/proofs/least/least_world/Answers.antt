@@ -1,5 +1,5 @@
 use Rattle.std.proofs.Common.{List, ap, ◌∙◌}
-use Rattle.wf_base.specs.declared.class_info.ClassInfo.{ClassInfo}
+use Rattle.wf_data.specs.declared.class_info.ClassInfo.{ClassInfo}
 use Rattle.wf_sys.specs.declared.flow.Flow.{Flow}
 use Rattle.wf_first.specs.Solution.{by_name, entered_in}
 use Rattle.wf_first.proofs.LeastWorld.{least_world}

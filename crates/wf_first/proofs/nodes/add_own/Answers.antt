@@ -1,5 +1,5 @@
 use Rattle.std.proofs.Common.{refl}
-use Rattle.wf_base.specs.declared.class_info.ClassInfo.{ClassInfo}
+use Rattle.wf_data.specs.declared.class_info.ClassInfo.{ClassInfo}
 use Rattle.wf_first.specs.Nodes.{with_nodes, own_method_nodes, own_nodes}
 use Rattle.wf_first.proofs.NodeLaws.{added_next}
 use Rattle.wf_first.proofs.nodes.add_own.Goals as goal

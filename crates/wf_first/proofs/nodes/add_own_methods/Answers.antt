@@ -1,5 +1,5 @@
 use Rattle.std.proofs.Common.{refl, ap, ◌∙◌}
-use Rattle.wf_base.specs.declared.class_info.MethodInfo.{MethodInfo}
+use Rattle.wf_data.specs.declared.class_info.MethodInfo.{MethodInfo}
 use Rattle.wf_sys.specs.Names.{method_name}
 use Rattle.wf_first.specs.Nodes.{with_nodes, code_nodes, own_method_nodes}
 use Rattle.wf_first.proofs.NodeLaws.{added_next}

@@ -1,5 +1,5 @@
 use Rattle.std.proofs.Common.{◌≡◌, drop}
-use Rattle.wf_base.specs.Members.{named_by}
+use Rattle.wf_names.specs.Members.{named_by}
 use Rattle.wf_first.specs.Nodes.{with_nodes, result_nodes}
 use Rattle.wf_first.proofs.nodes.add_results.Given as goal
 

@@ -1,5 +1,5 @@
 use Rattle.std.proofs.Common.{List, ◌∷◌, refl, ap, ◌∙◌}
-use Rattle.wf_base.specs.declared.class_info.ClassInfo.{ClassInfo}
+use Rattle.wf_data.specs.declared.class_info.ClassInfo.{ClassInfo}
 use Rattle.wf_sys.specs.Nodes.{Node, Initialized}
 use Rattle.wf_first.specs.Nodes.{with_node, with_nodes, method_nodes, shared_nodes}
 use Rattle.wf_first.proofs.NodeLaws.{added_next}

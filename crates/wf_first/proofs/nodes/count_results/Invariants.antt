@@ -1,5 +1,5 @@
 use Rattle.std.proofs.Common.{◌≡◌, ◌+◌, ◌≤◌, length, drop}
-use Rattle.wf_base.specs.declared.member.MemberName.{MemberName}
+use Rattle.wf_names.specs.declared.member.MemberName.{MemberName}
 use Rattle.wf_first.specs.Nodes.{result_nodes}
 use Rattle.wf_first.proofs.nodes.count_results.Given as goal
 

@@ -1,5 +1,5 @@
 use Rattle.std.proofs.Common.{◌≡◌, ◌++◌, Some, drop}
-use Rattle.wf_base.specs.Members.{named_by}
+use Rattle.wf_names.specs.Members.{named_by}
 use Rattle.wf_first.specs.Nodes.{place_of}
 use Rattle.wf_first.specs.Rows.{rows_along, found_rows}
 use Rattle.wf_first.proofs.rows.push_along.Given as goal

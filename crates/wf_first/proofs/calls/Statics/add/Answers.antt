@@ -1,5 +1,5 @@
 use Rattle.std.proofs.Common.{ap, map, ◌∙◌}
-use Rattle.wf_base.specs.Members.{named_by}
+use Rattle.wf_names.specs.Members.{named_by}
 use Rattle.wf_first.proofs.StaticLaws.{names_added}
 use Rattle.wf_first.proofs.calls.Statics.add.Goals as goal
 
