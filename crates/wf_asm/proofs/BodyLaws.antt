@@ -1,11 +1,11 @@
 -- Loops over the statements of a body.
-use Rattle.std.proofs.Common.{◌≡◌, ℕ, ◌+◌, ◌<◌, ◌≤◌, List, ◌∷◌, length, get_or, drop, Option, Some, None, Result, Ok, Err, ok_or, refl, subst, sym, ap, ◌∙◌, add-one, drop-cons}
+use Rattle.std.proofs.Common.{◌≡◌, ℕ, ◌+◌, ◌<◌, ◌≤◌, List, ◌∷◌, length, get_or, drop, Result, Ok, Err, refl, subst, sym, ap, ◌∙◌, add-one, drop-cons}
 use Rattle.std.proofs.lemmas.List.{drop_all}
-use Rattle.wf_asm.specs.declared.listing.Constant.{Constant}
-use Rattle.wf_asm.specs.declared.listing.Statement.{Statement}
+use Rattle.wf_listing.specs.declared.listing.Constant.{Constant}
+use Rattle.wf_listing.specs.declared.listing.Statement.{Statement}
 use Rattle.wf_asm.specs.declared.fault.AsmFault.{AsmFault}
 use Rattle.wf_asm.specs.declared.fault.AsmFault.TheVariants.{BadLine, NoMemory}
-use Rattle.wf_asm.specs.declared.listing.CodeSoFar.{CodeSoFar}
+use Rattle.wf_asm.specs.declared.code.CodeSoFar.{CodeSoFar}
 use Rattle.wf_asm.specs.Building.{◌>>=◌, Label, behind, with_label_of, labels_on, statement_on, body_on}
 use Rattle.wf_asm.specs.Giving.{Fails}
 
@@ -13,24 +13,17 @@ use Rattle.wf_asm.specs.Giving.{Fails}
 pub cut : {X : Type 0} (xs : List X) (i : ℕ) (x : X) → i < length xs → x ≡ get_or xs i x → drop i xs ≡ x ∷ drop (i + 1) xs
 cut xs i x lt is = (rw (add-one, drop-cons xs i x) refl) ∙ ap (λ y. y ∷ drop (i + 1) xs) (sym is)
 
-pub labels_next : (cs : List Constant) (body : List Statement) (i at next : ℕ) (s : Statement) (labels new : List Label) (total : Result (List Label) ℕ) → i < length body → s ≡ get_or body i s
-    → behind cs at s.says ≡ Some next → new ≡ with_label_of labels at s.says → labels_on cs at labels (drop i body) ≡ total → labels_on cs next new (drop (i + 1) body) ≡ total
+pub labels_next : (cs : List Constant) (body : List Statement) (i at next : ℕ) (s : Statement) (labels new total : List Label) → i < length body → s ≡ get_or body i s
+    → next ≡ behind cs at s.says → new ≡ with_label_of labels at s.line s.says → labels_on cs at labels (drop i body) ≡ total → labels_on cs next new (drop (i + 1) body) ≡ total
 unfolding labels_on
 labels_next cs body i at next s labels new total lt is fits added so_far =
-    let step : labels_on cs at labels (s ∷ drop (i + 1) body) ≡ total = ap (labels_on cs at labels) (sym (cut body i s lt is)) ∙ so_far in
-    let go : labels_on cs at labels (s ∷ drop (i + 1) body) ≡ labels_on cs next (with_label_of labels at s.says) (drop (i + 1) body) = ap (λ (o : Option ℕ). ok_or o s.line >>= λ n. labels_on cs n (with_label_of labels at s.says) (drop (i + 1) body)) fits in
-    ap (λ (ls : List Label). labels_on cs next ls (drop (i + 1) body)) added ∙ sym go ∙ step
+    let rest = drop (i + 1) body in
+    ap (λ (n : ℕ). labels_on cs n new rest) fits ∙ ap (λ (ls : List Label). labels_on cs (behind cs at s.says) ls rest) added
+    ∙ ap (labels_on cs at labels) (sym (cut body i s lt is)) ∙ so_far
 
-pub labels_stop : (cs : List Constant) (body : List Statement) (i at : ℕ) (s : Statement) (labels : List Label) (total : Result (List Label) ℕ) → i < length body → s ≡ get_or body i s
-    → behind cs at s.says ≡ None → labels_on cs at labels (drop i body) ≡ total → total ≡ Err s.line
+pub labels_done : (cs : List Constant) (body : List Statement) (i at : ℕ) (labels total : List Label) → length body ≤ i → labels_on cs at labels (drop i body) ≡ total → labels ≡ total
 unfolding labels_on
-labels_stop cs body i at s labels total lt is none so_far =
-    let step : labels_on cs at labels (s ∷ drop (i + 1) body) ≡ total = ap (labels_on cs at labels) (sym (cut body i s lt is)) ∙ so_far in
-    sym step ∙ ap (λ (o : Option ℕ). ok_or o s.line >>= λ n. labels_on cs n (with_label_of labels at s.says) (drop (i + 1) body)) none
-
-pub labels_done : (cs : List Constant) (body : List Statement) (i at : ℕ) (labels : List Label) (total : Result (List Label) ℕ) → length body ≤ i → labels_on cs at labels (drop i body) ≡ total → total ≡ Ok labels
-unfolding labels_on
-labels_done cs body i at labels total le so_far = sym so_far ∙ ap (labels_on cs at labels) (drop_all i body le)
+labels_done cs body i at labels total le so_far = sym (ap (labels_on cs at labels) (drop_all i body le)) ∙ so_far
 
 -- where a step fails, so does the whole
 pub bind_fails : {A B : Type 0} (e : AsmFault) (r : Result A ℕ) (f : A → Result B ℕ) → Fails e r → Fails e (r >>= f)

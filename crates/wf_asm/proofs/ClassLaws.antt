@@ -1,12 +1,12 @@
 -- Loops that collect the methods of a class, and classes.
 use Rattle.std.proofs.Common.{◌≡◌, ℕ, ◌+◌, ◌<◌, ◌≤◌, List, [], ◌∷◌, ◌++◌, length, get_or, drop, Result, Ok, Err, refl, sym, ap, ◌∙◌, subst, append_assoc, append-nil}
 use Rattle.std.proofs.lemmas.List.{drop_all}
-use Rattle.wf_base.specs.declared.class_info.ClassInfo.{ClassInfo}
-use Rattle.wf_base.specs.declared.class_info.MethodInfo.{MethodInfo}
+use Rattle.wf_data.specs.declared.class_info.ClassInfo.{ClassInfo}
+use Rattle.wf_data.specs.declared.class_info.MethodInfo.{MethodInfo}
 use Rattle.wf_asm.specs.declared.fault.AsmFault.{AsmFault}
-use Rattle.wf_asm.specs.declared.listing.Constant.{Constant}
-use Rattle.wf_asm.specs.declared.listing.Listed.{Listed}
-use Rattle.wf_asm.specs.declared.listing.ListedMethod.{ListedMethod}
+use Rattle.wf_listing.specs.declared.listing.Constant.{Constant}
+use Rattle.wf_listing.specs.declared.listing.Listed.{Listed}
+use Rattle.wf_listing.specs.declared.listing.ListedMethod.{ListedMethod}
 use Rattle.wf_asm.specs.Building.{◌>>=◌, method_of, methods_of, class_of, classes_of}
 use Rattle.wf_asm.specs.Giving.{Fails}
 use Rattle.wf_asm.proofs.BodyLaws.{cut, bind_fails}

@@ -2,9 +2,9 @@
 use Rattle.std.proofs.Common.{◌≡◌, ℕ, suc, ◌+◌, ◌<◌, ◌≤◌, Bool, true, false, ◌||◌, cond, if◌then◌else◌, nat_lt, List, [], ◌∷◌, ◌++◌, length, get_or, drop, map, Some, None, position, refl, sym, ap, ◌∙◌, arith, add-one, drop-cons, ltb-false}
 use Rattle.std.proofs.lemmas.List.Recursion.{is_position_or_len}
 use Rattle.std.specs.List.{flat_map, list_any, position_or_len}
-use Rattle.wf_asm.specs.declared.listing.Constant.{Constant}
-use Rattle.wf_asm.specs.declared.listing.Constant.TheVariants as constant
-use Rattle.wf_asm.specs.contracts.listing.ConstantPartialEq.TheImpl.{eq-value}
+use Rattle.wf_listing.specs.declared.listing.Constant.{Constant}
+use Rattle.wf_listing.specs.declared.listing.Constant.TheVariants as constant
+use Rattle.wf_listing.specs.contracts.listing.ConstantPartialEq.TheImpl.{eq-value}
 use Rattle.wf_asm.specs.Constants.{same, with_constant, with_constants, place_of}
 
 -- whether two constants are one, as the code asks

@@ -2,14 +2,14 @@
 use Rattle.std.proofs.Common.{◌≡◌, ℕ, suc, ◌+◌, ◌-◌, ◌<◌, ◌≤◌, ◌%◌, ◌==◌, Bool, true, false, if◌then◌else◌, nat_lt, nat_le, List, [], ◌∷◌, ◌++◌, length, Some, Result, Ok, Err, is_ok, refl, sym, ap, ◌∙◌, arith, length-append, append-nil, le-leb, leb-true, true≢false}
 use Rattle.std.specs.Prelude.{codes}
 use Rattle.std.specs.List.{list_any}
-use Rattle.wf_base.specs.declared.class_info.ClassInfo.{ClassInfo}
-use Rattle.wf_base.specs.declared.class_info.CodeInfo.{CodeInfo}
-use Rattle.wf_base.specs.declared.class_info.MethodInfo.{MethodInfo}
-use Rattle.wf_base.specs.Names.{constructor_name}
-use Rattle.wf_asm.specs.declared.listing.Constant.{Constant}
-use Rattle.wf_asm.specs.declared.listing.Listed.{Listed}
-use Rattle.wf_asm.specs.declared.listing.ListedMethod.{ListedMethod}
-use Rattle.wf_asm.specs.declared.listing.Statement.{Statement}
+use Rattle.wf_data.specs.declared.class_info.ClassInfo.{ClassInfo}
+use Rattle.wf_data.specs.declared.class_info.CodeInfo.{CodeInfo}
+use Rattle.wf_data.specs.declared.class_info.MethodInfo.{MethodInfo}
+use Rattle.wf_names.specs.Names.{constructor_name}
+use Rattle.wf_listing.specs.declared.listing.Constant.{Constant}
+use Rattle.wf_listing.specs.declared.listing.Listed.{Listed}
+use Rattle.wf_listing.specs.declared.listing.ListedMethod.{ListedMethod}
+use Rattle.wf_listing.specs.declared.listing.Statement.{Statement}
 use Rattle.wf_asm.specs.Constants.{same, with_constant, with_constants, uses_of, constants_of}
 use Rattle.wf_asm.specs.Building.{◌>>=◌, labels_on, onto, joined, signed_bytes, step_bytes, body_on, code_of, method_of, methods_of, method_with, class_with, class_of, classes_of}
 use Rattle.wf_asm.specs.Generating.{returns, makes, branches, method, class_name, super_of, class_listed, generated_class, object_class, class_at, state_behind, next_state, number_of, generated_from, generated}

@@ -6,13 +6,13 @@ use Rattle.std.proofs.lemmas.Bool.{and_parts, or_left, or_right}
 use Rattle.std.proofs.lemmas.Bool.Decides.{Decides-int_eq}
 use Rattle.std.proofs.lemmas.List.Folds.{list_any-append}
 use Rattle.std.proofs.lemmas.Slice.Eq.{bytes_eq-Decides}
-use Rattle.wf_base.specs.ClassFile.{text_in, text_at, class_in, class_at, has_class, has_name_type, name_type_in}
-use Rattle.wf_base.specs.declared.class_info.PoolEntry.{PoolEntry}
-use Rattle.wf_base.specs.declared.class_info.PoolEntry.TheVariants as entry
-use Rattle.wf_base.specs.declared.member.MemberName.{MemberName}
-use Rattle.wf_asm.specs.declared.listing.Constant.{Constant}
-use Rattle.wf_asm.specs.declared.listing.Constant.TheVariants as constant
-use Rattle.wf_base.specs.Members.{same_member}
+use Rattle.wf_data.specs.Pool.{text_in, text_at, class_in, class_at, has_class, has_name_type, name_type_in}
+use Rattle.wf_data.specs.declared.class_info.PoolEntry.{PoolEntry}
+use Rattle.wf_data.specs.declared.class_info.PoolEntry.TheVariants as entry
+use Rattle.wf_names.specs.declared.member.MemberName.{MemberName}
+use Rattle.wf_listing.specs.declared.listing.Constant.{Constant}
+use Rattle.wf_listing.specs.declared.listing.Constant.TheVariants as constant
+use Rattle.wf_names.specs.Members.{same_member}
 use Rattle.wf_asm.specs.Constants.{same, with_constant, with_constants, place_of, entry_of, pool_of}
 use Rattle.wf_asm.proofs.ConstantLaws.{place_fits}
 

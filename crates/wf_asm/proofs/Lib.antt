@@ -1,17 +1,12 @@
 pub mod BodyLaws
-mod Cases
 pub mod ClassLaws
 pub mod ConstantLaws
-mod Cutting
-mod Decimals
-mod Each
 pub mod GeneratedLaws
 mod HeldLaws
 pub mod LabelLaws
 pub mod NameLaws
 pub mod PuttingLaws
-mod Reading
-mod Slots
+pub mod SizeLaws
 mod SpelledLaws
 mod SpelledMembers
 mod SpelledNames

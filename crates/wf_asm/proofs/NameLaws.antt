@@ -1,10 +1,10 @@
 -- Generated classes have names of their own.
 use Rattle.std.proofs.Common.{◌≡◌, ◌≢◌, ℕ, zero, suc, ◌+◌, ◌-◌, ◌<◌, ◌≤◌, ◌^◌, Bool, true, false, if◌then◌else◌, nat_le, List, [], ◌∷◌, length, get_or, Result, Ok, Err, decimal, refl, ap, ◌∙◌, arith}
 use Rattle.std.proofs.lemmas.Fmt.{decimal_injective}
-use Rattle.wf_base.specs.Names.{object_name}
-use Rattle.wf_base.specs.declared.class_info.ClassInfo.{ClassInfo}
-use Rattle.wf_base.specs.declared.class_info.MethodInfo.{MethodInfo}
-use Rattle.wf_asm.specs.declared.listing.Listed.{Listed}
+use Rattle.wf_names.specs.Names.{object_name}
+use Rattle.wf_data.specs.declared.class_info.ClassInfo.{ClassInfo}
+use Rattle.wf_data.specs.declared.class_info.MethodInfo.{MethodInfo}
+use Rattle.wf_listing.specs.declared.listing.Listed.{Listed}
 use Rattle.wf_asm.specs.Constants.{constants_of}
 use Rattle.wf_asm.specs.Building.{◌>>=◌, methods_of, class_with, class_of, classes_of}
 use Rattle.wf_asm.specs.Generating.{class_name, class_at, object_class, generated_class, generated_from, generated, state_behind, NoneIsNamed, HaveOwnNames, IsProgramOf}

@@ -2,10 +2,10 @@
 use Rattle.std.proofs.Common.{◌≡◌, ℕ, ◌+◌, ◌<◌, ◌≤◌, List, ◌++◌, length, get_or, drop, Option, Some, None, option_map, Result, Ok, Err, refl, sym, ap, ◌∙◌, append_assoc, append-nil}
 use Rattle.std.proofs.lemmas.List.{drop_all}
 use Rattle.std.specs.Int.{w32}
-use Rattle.wf_asm.specs.declared.listing.ListedCase.{ListedCase}
-use Rattle.wf_asm.specs.declared.listing.CodeSoFar.{CodeSoFar}
-use Rattle.wf_asm.specs.declared.stop.Stop.{Stop}
-use Rattle.wf_asm.specs.declared.stop.Stop.TheVariants.{NotOfForm, NoMemory}
+use Rattle.wf_listing.specs.declared.listing.ListedCase.{ListedCase}
+use Rattle.wf_asm.specs.declared.code.CodeSoFar.{CodeSoFar}
+use Rattle.wf_listing.specs.declared.stop.Stop.{Stop}
+use Rattle.wf_listing.specs.declared.stop.Stop.TheVariants.{NotOfForm, NoMemory}
 use Rattle.wf_asm.specs.Putting.{Puts}
 use Rattle.wf_asm.specs.Building.{with_bytes, Label, onto, joined, distance_bytes, case_bytes, table_bytes, lookup_bytes}
 use Rattle.wf_asm.proofs.BodyLaws.{cut}

@@ -6,18 +6,18 @@ use Rattle.std.specs.List.{AllByRecursion, flat_map}
 use Rattle.std.specs.Str.{bytes_eq}
 use Rattle.std.proofs.lemmas.Bool.{and_from, eqb-false, ltb-true}
 use Rattle.std.proofs.lemmas.List.Elements.{All-from_recursion}
-use Rattle.wf_base.specs.NameForm.{member_of}
-use Rattle.wf_base.specs.Names.{object_name, constructor_name, is_class_name}
-use Rattle.wf_base.specs.Writing.{HasSpelling, put_place, class_place, put_superclass, put_interfaces, put_classes, put_fields, put_members, put_class}
-use Rattle.wf_base.specs.declared.class_info.ClassInfo.{ClassInfo}
-use Rattle.wf_base.specs.declared.class_info.MethodInfo.{MethodInfo}
-use Rattle.wf_base.proofs.WritableLaws.{class_writable}
-use Rattle.wf_base.proofs.WritingLaws.{spelling_spells}
-use Rattle.wf_base.proofs.Written.{Writable, writable_nothing, writable_number, writable_under, writable_then}
-use Rattle.wf_asm.specs.declared.listing.Constant.{Constant}
-use Rattle.wf_asm.specs.declared.listing.Constant.TheVariants as constant
-use Rattle.wf_asm.specs.declared.listing.Listed.{Listed}
-use Rattle.wf_asm.specs.declared.listing.ListedMethod.{ListedMethod}
+use Rattle.wf_names.specs.NameForm.{member_of}
+use Rattle.wf_names.specs.Names.{object_name, constructor_name, is_class_name}
+use Rattle.wf_grammar.specs.Writing.{HasSpelling, put_place, class_place, put_superclass, put_interfaces, put_classes, put_fields, put_members, put_class}
+use Rattle.wf_data.specs.declared.class_info.ClassInfo.{ClassInfo}
+use Rattle.wf_data.specs.declared.class_info.MethodInfo.{MethodInfo}
+use Rattle.wf_grammar.proofs.WritableLaws.{class_writable}
+use Rattle.wf_grammar.proofs.WritingLaws.{spelling_spells}
+use Rattle.wf_grammar.proofs.Written.{Writable, writable_nothing, writable_number, writable_under, writable_then}
+use Rattle.wf_listing.specs.declared.listing.Constant.{Constant}
+use Rattle.wf_listing.specs.declared.listing.Constant.TheVariants as constant
+use Rattle.wf_listing.specs.declared.listing.Listed.{Listed}
+use Rattle.wf_listing.specs.declared.listing.ListedMethod.{ListedMethod}
 use Rattle.wf_asm.specs.Constants.{parts_of, with_constants, place_of, uses_of, constants_of, pool_of}
 use Rattle.wf_asm.specs.Building.{labels_on, onto, joined, signed_bytes, step_bytes, body_on, code_of, methods_of, class_with, class_of, classes_of}
 use Rattle.wf_asm.specs.Generating.{returns, void_desc, method, class_name, super_of, class_listed, generated_class, object_class, class_at, state_behind, next_state, number_of, generated_from, generated, IsProgramOf}

@@ -7,18 +7,20 @@ use Rattle.std.specs.List.{AllByRecursion, flat_map, list_any}
 use Rattle.std.specs.Str.{bytes_eq}
 use Rattle.std.proofs.lemmas.Bool.{and_parts, eqb-true, ltb-true, not-true, or_cases}
 use Rattle.std.proofs.lemmas.Slice.Eq.{bytes_eq-Decides}
-use Rattle.wf_base.specs.ClassFile.{Key, is_key, is_native_or_abstract, parameter_slots, text_at}
-use Rattle.wf_base.specs.Descriptors.{is_method_descriptor}
-use Rattle.wf_base.specs.Names.{is_method_name}
-use Rattle.wf_base.specs.Writing.{put_place, text_place, put_member, put_handlers, put_code, put_method_attributes, put_method, put_methods}
-use Rattle.wf_base.specs.declared.class_info.CodeInfo.{CodeInfo}
-use Rattle.wf_base.specs.declared.class_info.Handler.{Handler}
-use Rattle.wf_base.specs.declared.class_info.MethodInfo.{MethodInfo}
-use Rattle.wf_base.specs.declared.class_info.PoolEntry.{PoolEntry}
-use Rattle.wf_base.proofs.WritableLaws.{CodeFits, method_attributes_writable, text_writable}
-use Rattle.wf_base.proofs.Written.{Writable, writable_nothing, writable_number, writable_run, writable_under, writable_then}
-use Rattle.wf_asm.specs.declared.listing.Constant.{Constant}
-use Rattle.wf_asm.specs.declared.listing.Constant.TheVariants as constant
+use Rattle.wf_grammar.specs.ClassFile.{Key, is_key, parameter_slots}
+use Rattle.wf_data.specs.Flags.{is_native_or_abstract}
+use Rattle.wf_data.specs.Pool.{text_at}
+use Rattle.wf_descriptor.specs.Descriptors.{is_method_descriptor}
+use Rattle.wf_names.specs.Names.{is_method_name}
+use Rattle.wf_grammar.specs.Writing.{put_place, text_place, put_member, put_handlers, put_code, put_method_attributes, put_method, put_methods}
+use Rattle.wf_data.specs.declared.class_info.CodeInfo.{CodeInfo}
+use Rattle.wf_data.specs.declared.class_info.Handler.{Handler}
+use Rattle.wf_data.specs.declared.class_info.MethodInfo.{MethodInfo}
+use Rattle.wf_data.specs.declared.class_info.PoolEntry.{PoolEntry}
+use Rattle.wf_grammar.proofs.WritableLaws.{CodeFits, method_attributes_writable, text_writable}
+use Rattle.wf_grammar.proofs.Written.{Writable, writable_nothing, writable_number, writable_run, writable_under, writable_then}
+use Rattle.wf_listing.specs.declared.listing.Constant.{Constant}
+use Rattle.wf_listing.specs.declared.listing.Constant.TheVariants as constant
 use Rattle.wf_asm.specs.Constants.{parts_of, place_of, pool_of}
 use Rattle.wf_asm.proofs.HeldLaws.{IsHeld, text_found, place_small}
 

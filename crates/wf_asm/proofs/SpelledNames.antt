@@ -1,15 +1,19 @@
 -- The names of generated classes are names that a pool has room for.
-use Rattle.std.proofs.Common.{◌≡◌, ℕ, ◌+◌, ◌%◌, ◌<◌, ◌≤◌, ◌^◌, ◌==◌, true, false, not, ◌&&◌, nat_lt, List, [], ◌∷◌, ◌++◌, length, decimal, refl, ◌∙◌, arith}
+use Rattle.std.proofs.Common.{◌≡◌, ℕ, ◌+◌, ◌%◌, ◌<◌, ◌≤◌, ◌^◌, ◌==◌, Bool, true, false, not, ◌&&◌, nat_lt, List, [], ◌∷◌, ◌++◌, length, decimal, refl, ◌∙◌, arith}
 use Rattle.std.specs.List.{list_all}
+use Rattle.std.specs.Prelude.{nat_le}
 use Rattle.std.proofs.lemmas.Bool.{and_from, and_parts, ltb-true}
 use Rattle.std.proofs.lemmas.Bool.Decides.{nat_tests}
 use Rattle.std.proofs.lemmas.Fmt.{decimal_by_steps, length-decimal-le}
 use Rattle.std.proofs.lemmas.List.Folds.{list_all-append}
-use Rattle.wf_base.specs.ClassFile.{is_text_byte}
-use Rattle.wf_base.specs.Names.{is_class_name, is_forbidden, are_parts}
+use Rattle.wf_grammar.specs.ClassFile.{is_text_byte}
+use Rattle.wf_names.specs.Names.{is_class_name, is_forbidden, are_parts}
 use Rattle.wf_asm.specs.Generating.{class_name}
-use Rattle.wf_asm.specs.Words.{is_digit}
 use Rattle.wf_asm.proofs.SpelledPool.{IsPoolText}
+
+-- a decimal digit
+abbrev is_digit : ℕ → Bool
+is_digit b = nat_le 48 b && nat_le b 57
 
 digit : (n : ℕ) → n < 10 → is_digit (48 + n) ≡ true
 digit n lt = grind (arith, nat_tests)

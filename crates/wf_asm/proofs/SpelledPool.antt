@@ -4,14 +4,15 @@ use Rattle.std.specs.Int.{w8, w16}
 use Rattle.std.specs.List.{AllByRecursion, flat_map, list_all}
 use Rattle.std.proofs.lemmas.Bool.{and_from}
 use Rattle.std.proofs.lemmas.List.{length-map}
-use Rattle.wf_base.specs.ClassFile.{is_text_byte, has_text, is_sound}
-use Rattle.wf_base.specs.declared.class_info.PoolEntry.{PoolEntry}
-use Rattle.wf_base.specs.declared.class_info.PoolEntry.TheVariants as entry
-use Rattle.wf_base.specs.Writing.{put_text, put_behind_tag, put_entry, put_pool_place, put_places, put_entries, put_pool, is_wide, tag_of}
-use Rattle.wf_base.proofs.Written.{Writable, writable_nothing, writable_number, writable_run, writable_under, writable_then}
-use Rattle.wf_base.proofs.WritablePool.{places_writable}
-use Rattle.wf_asm.specs.declared.listing.Constant.{Constant}
-use Rattle.wf_asm.specs.declared.listing.Constant.TheVariants as constant
+use Rattle.wf_grammar.specs.ClassFile.{is_text_byte, is_sound}
+use Rattle.wf_data.specs.Pool.{has_text}
+use Rattle.wf_data.specs.declared.class_info.PoolEntry.{PoolEntry}
+use Rattle.wf_data.specs.declared.class_info.PoolEntry.TheVariants as entry
+use Rattle.wf_grammar.specs.Writing.{put_text, put_behind_tag, put_entry, put_pool_place, put_places, put_entries, put_pool, is_wide, tag_of}
+use Rattle.wf_grammar.proofs.Written.{Writable, writable_nothing, writable_number, writable_run, writable_under, writable_then}
+use Rattle.wf_grammar.proofs.WritablePool.{places_writable}
+use Rattle.wf_listing.specs.declared.listing.Constant.{Constant}
+use Rattle.wf_listing.specs.declared.listing.Constant.TheVariants as constant
 use Rattle.wf_asm.specs.Constants.{parts_of, with_constants, place_of, entry_of, pool_of}
 use Rattle.wf_asm.proofs.HeldLaws.{IsHeld, all_held, each_with, text_found, class_has_place, name_type_has_place, place_small}
 

@@ -1,30 +1,31 @@
 -- The class that a listing says: the code of a body, where its instructions begin and their bytes (JVMS 4.7.3,
 -- 6.5), and what stands around it.
-use Rattle.std.specs.Prelude.{ℕ, ◌+◌, ◌-◌, ◌*◌, ◌^◌, ℤ, pos, ◌+ℤ◌, ◌-ℤ◌, List, [], ◌∷◌, ◌++◌, Option, Some, None, Result, Ok, Err, ◌==◌, nat_le, nat_lt, length, is_some, option_and_then, option_map, map, ok_or, if◌then◌else◌}
+use Rattle.std.specs.Prelude.{ℕ, ◌+◌, ◌-◌, ◌*◌, ◌^◌, min, ℤ, pos, ◌+ℤ◌, ◌-ℤ◌, Bool, false, List, [], ◌∷◌, ◌++◌, Option, Some, None, Result, Ok, Err, ◌==◌, nat_le, nat_lt, length, is_some, option_and_then, option_map, map, ok_or, if◌then◌else◌}
 use Rattle.std.specs.Int.{Width, w16, w32, to_be_bytes, cast_signed, cast_unsigned}
 use Rattle.std.specs.Option.{option_map_or}
 use Rattle.std.specs.Ordering.{int_eq}
 use Rattle.std.specs.Str.{bytes_eq}
-use Rattle.wf_base.specs.declared.class_info.ClassInfo.{ClassInfo}
-use Rattle.wf_base.specs.declared.class_info.CodeInfo.{CodeInfo}
-use Rattle.wf_base.specs.declared.class_info.FieldInfo.{FieldInfo}
-use Rattle.wf_base.specs.declared.class_info.Handler.{Handler}
-use Rattle.wf_base.specs.declared.class_info.MethodInfo.{MethodInfo}
-use Rattle.wf_asm.specs.declared.listing.CodeSoFar.{CodeSoFar}
-use Rattle.wf_asm.specs.declared.listing.Constant.{Constant}
-use Rattle.wf_asm.specs.declared.listing.Constant.TheVariants as constant
-use Rattle.wf_asm.specs.declared.listing.Item.{Item}
-use Rattle.wf_asm.specs.declared.listing.Item.TheVariants as item
-use Rattle.wf_asm.specs.declared.listing.ListedCase.{ListedCase}
-use Rattle.wf_asm.specs.declared.listing.ListedCatch.{ListedCatch}
-use Rattle.wf_asm.specs.declared.listing.Listed.{Listed}
-use Rattle.wf_asm.specs.declared.listing.ListedField.{ListedField}
-use Rattle.wf_asm.specs.declared.listing.ListedMethod.{ListedMethod}
-use Rattle.wf_asm.specs.declared.listing.ListedTable.{ListedTable}
-use Rattle.wf_asm.specs.declared.listing.Statement.{Statement}
-use Rattle.wf_asm.specs.declared.listing.Step.{Step}
-use Rattle.wf_asm.specs.declared.listing.Step.TheVariants as step
-use Rattle.wf_asm.specs.declared.listing.Use.{Use}
+use Rattle.wf_data.specs.declared.class_info.ClassInfo.{ClassInfo}
+use Rattle.wf_data.specs.declared.class_info.CodeInfo.{CodeInfo}
+use Rattle.wf_data.specs.declared.class_info.FieldInfo.{FieldInfo}
+use Rattle.wf_data.specs.declared.class_info.Handler.{Handler}
+use Rattle.wf_data.specs.declared.class_info.MethodInfo.{MethodInfo}
+use Rattle.wf_asm.specs.declared.code.CodeSoFar.{CodeSoFar}
+use Rattle.wf_asm.specs.declared.labels.Spot.{Spot}
+use Rattle.wf_listing.specs.declared.listing.Constant.{Constant}
+use Rattle.wf_listing.specs.declared.listing.Constant.TheVariants as constant
+use Rattle.wf_listing.specs.declared.listing.Item.{Item}
+use Rattle.wf_listing.specs.declared.listing.Item.TheVariants as item
+use Rattle.wf_listing.specs.declared.listing.ListedCase.{ListedCase}
+use Rattle.wf_listing.specs.declared.listing.ListedCatch.{ListedCatch}
+use Rattle.wf_listing.specs.declared.listing.Listed.{Listed}
+use Rattle.wf_listing.specs.declared.listing.ListedField.{ListedField}
+use Rattle.wf_listing.specs.declared.listing.ListedMethod.{ListedMethod}
+use Rattle.wf_listing.specs.declared.listing.ListedTable.{ListedTable}
+use Rattle.wf_listing.specs.declared.listing.Statement.{Statement}
+use Rattle.wf_listing.specs.declared.listing.Step.{Step}
+use Rattle.wf_listing.specs.declared.listing.Step.TheVariants as step
+use Rattle.wf_listing.specs.declared.listing.Use.{Use}
 use Rattle.wf_asm.specs.Constants.{place_of, constants_of, pool_of}
 use Rattle.wf_opcode.specs.Instructions.{padding}
 
@@ -49,32 +50,46 @@ abbrev pub size_of_item : List Constant → ℕ → Item → ℕ
 size_of_item cs at (item.Step s) = size_of_step cs at s
 size_of_item cs at i = 0
 
--- The place behind an item. A code has at most 65535 bytes.
-abbrev pub behind : List Constant → ℕ → Item → Option ℕ
-behind cs at i = if nat_le (at + size_of_item cs at i) 65535 then Some (at + size_of_item cs at i) else None
+-- The place behind an item. Places are counted up to 2^32, since no jump reaches further.
+abbrev pub behind : List Constant → ℕ → Item → ℕ
+behind cs at i = min (at + size_of_item cs at i) (2 ^ 32)
 
--- a label with its place
+-- a label with its place and its line
 abbrev pub Label : Type 0
-Label = List ℕ × ℕ
+Label = List ℕ × Spot
 
--- where a label is
+-- where a label is given
+abbrev pub spot_of : List Label → List ℕ → Option Spot
+spot_of [] name = None
+spot_of (l ∷ labels) name = if bytes_eq name l.0 then Some l.1 else spot_of labels name
+
+-- the place of a label
 abbrev pub address_of : List Label → List ℕ → Option ℕ
-address_of [] name = None
-address_of (l ∷ labels) name = if bytes_eq name l.0 then Some l.1 else address_of labels name
+address_of labels name = option_map (λ (s : Spot). s.at) (spot_of labels name)
+
+-- the same where it takes two bytes, as in the exception table (JVMS 4.7.3)
+abbrev pub in_two_bytes : ℕ → Option ℕ
+in_two_bytes at = if nat_le at 65535 then Some at else None
+
+abbrev pub short_address_of : List Label → List ℕ → Option ℕ
+short_address_of labels name = option_and_then in_two_bytes (address_of labels name)
+
+-- whether this line is the first of the body that gives the label
+abbrev pub is_first : List Label → List ℕ → ℕ → Bool
+is_first labels name line = option_map_or (λ (s : Spot). s.line == line) (spot_of labels name) false
 
 -- labels with one more, where it isn't there yet
-abbrev pub with_label : List Label → List ℕ → ℕ → List Label
-with_label labels name at = if is_some (address_of labels name) then labels else labels ++ (name, at) ∷ []
+abbrev pub with_label : List Label → List ℕ → Spot → List Label
+with_label labels name spot = if is_some (spot_of labels name) then labels else labels ++ (name, spot) ∷ []
 
-abbrev pub with_label_of : List Label → ℕ → Item → List Label
-with_label_of labels at (item.Label name) = with_label labels name at
-with_label_of labels at i = labels
+abbrev pub with_label_of : List Label → ℕ → ℕ → Item → List Label
+with_label_of labels at line (item.Label name) = with_label labels name (record { at = at; line = line })
+with_label_of labels at line i = labels
 
--- The labels of a body with their places, from a place on, behind those that are known; or the first line at which
--- the code gets too long.
-unfoldable pub labels_on : List Constant → ℕ → List Label → List Statement → Result (List Label) ℕ
-labels_on cs at labels [] = Ok labels
-labels_on cs at labels (s ∷ ss) = ok_or (behind cs at s.says) s.line >>= λ next. labels_on cs next (with_label_of labels at s.says) ss
+-- The labels of a body with their places, from a place on, behind those that are known.
+unfoldable pub labels_on : List Constant → ℕ → List Label → List Statement → List Label
+labels_on cs at labels [] = labels
+labels_on cs at labels (s ∷ ss) = labels_on cs (behind cs at s.says) (with_label_of labels at s.line s.says) ss
 
 -- ---- bytes
 
@@ -151,7 +166,7 @@ abbrev pub handler_with : List Constant → ListedCatch → ℕ → ℕ → ℕ 
 handler_with cs c from to handler = record { start = from; end = to; target = handler; catch_class = option_map_or (λ name. place_of cs (constant.Class name)) c.class 0 }
 
 unfoldable pub handler_of : List Constant → List Label → ListedCatch → Option Handler
-handler_of cs labels c = option_and_then (λ from. option_and_then (λ to. option_map (handler_with cs c from to) (address_of labels c.handler)) (address_of labels c.to)) (address_of labels c.from)
+handler_of cs labels c = option_and_then (λ from. option_and_then (λ to. option_map (handler_with cs c from to) (short_address_of labels c.handler)) (short_address_of labels c.to)) (short_address_of labels c.from)
 
 -- ---- a body
 
@@ -161,14 +176,19 @@ with_bytes so_far bytes = record { code = so_far.code ++ bytes; table = so_far.t
 abbrev pub with_handler : CodeSoFar → Handler → CodeSoFar
 with_handler so_far h = record { code = so_far.code; table = so_far.table ++ h ∷ [] }
 
--- what a statement adds, which goes wrong at its line
-abbrev pub item_on : List Constant → List Label → CodeSoFar → Item → Option CodeSoFar
-item_on cs labels so_far (item.Label name) = Some so_far
-item_on cs labels so_far (item.Step s) = option_map (with_bytes so_far) (step_bytes cs labels (length so_far.code) s)
-item_on cs labels so_far (item.Catch c) = option_map (with_handler so_far) (handler_of cs labels c)
+-- What an item of a line adds. A label that a line before gives can't be given again.
+abbrev pub item_on : List Constant → List Label → ℕ → CodeSoFar → Item → Option CodeSoFar
+item_on cs labels line so_far (item.Label name) = if is_first labels name line then Some so_far else None
+item_on cs labels line so_far (item.Step s) = option_map (with_bytes so_far) (step_bytes cs labels (length so_far.code) s)
+item_on cs labels line so_far (item.Catch c) = option_map (with_handler so_far) (handler_of cs labels c)
 
+-- a code has at most 65535 bytes (JVMS 4.7.3)
+abbrev pub short_enough : CodeSoFar → Option CodeSoFar
+short_enough so_far = if nat_le (length so_far.code) 65535 then Some so_far else None
+
+-- what a statement adds, which goes wrong at its line
 abbrev pub statement_on : List Constant → List Label → CodeSoFar → Statement → Result CodeSoFar ℕ
-statement_on cs labels so_far s = ok_or (item_on cs labels so_far s.says) s.line
+statement_on cs labels so_far s = ok_or (option_and_then short_enough (item_on cs labels s.line so_far s.says)) s.line
 
 unfoldable pub body_on : List Constant → List Label → CodeSoFar → List Statement → Result CodeSoFar ℕ
 body_on cs labels so_far [] = Ok so_far
@@ -182,7 +202,7 @@ abbrev pub code_with : CodeSoFar → CodeInfo
 code_with so_far = record { max_stack = 32; max_locals = 32; code = so_far.code; table = so_far.table }
 
 unfoldable pub code_of : List Constant → List Statement → Result CodeInfo ℕ
-code_of cs body = labels_on cs 0 [] body >>= λ labels. body_on cs labels nothing_yet body >>= λ so_far. Ok (code_with so_far)
+code_of cs body = body_on cs (labels_on cs 0 [] body) nothing_yet body >>= λ so_far. Ok (code_with so_far)
 
 -- ---- the class
 

@@ -5,20 +5,20 @@ use Rattle.std.specs.List.{flat_map, list_any}
 use Rattle.std.specs.Option.{option_map_or}
 use Rattle.std.specs.Ordering.{int_eq}
 use Rattle.std.specs.Str.{bytes_eq}
-use Rattle.wf_base.specs.declared.class_info.PoolEntry.{PoolEntry}
-use Rattle.wf_base.specs.declared.class_info.PoolEntry.TheVariants as entry
-use Rattle.wf_base.specs.declared.member.MemberName.{MemberName}
-use Rattle.wf_base.specs.Members.{same_member}
-use Rattle.wf_asm.specs.declared.listing.Constant.{Constant}
-use Rattle.wf_asm.specs.declared.listing.Constant.TheVariants as constant
-use Rattle.wf_asm.specs.declared.listing.Item.{Item}
-use Rattle.wf_asm.specs.declared.listing.Item.TheVariants as item
-use Rattle.wf_asm.specs.declared.listing.Listed.{Listed}
-use Rattle.wf_asm.specs.declared.listing.ListedField.{ListedField}
-use Rattle.wf_asm.specs.declared.listing.ListedMethod.{ListedMethod}
-use Rattle.wf_asm.specs.declared.listing.Statement.{Statement}
-use Rattle.wf_asm.specs.declared.listing.Step.{Step}
-use Rattle.wf_asm.specs.declared.listing.Step.TheVariants as step
+use Rattle.wf_data.specs.declared.class_info.PoolEntry.{PoolEntry}
+use Rattle.wf_data.specs.declared.class_info.PoolEntry.TheVariants as entry
+use Rattle.wf_names.specs.declared.member.MemberName.{MemberName}
+use Rattle.wf_names.specs.Members.{same_member}
+use Rattle.wf_listing.specs.declared.listing.Constant.{Constant}
+use Rattle.wf_listing.specs.declared.listing.Constant.TheVariants as constant
+use Rattle.wf_listing.specs.declared.listing.Item.{Item}
+use Rattle.wf_listing.specs.declared.listing.Item.TheVariants as item
+use Rattle.wf_listing.specs.declared.listing.Listed.{Listed}
+use Rattle.wf_listing.specs.declared.listing.ListedField.{ListedField}
+use Rattle.wf_listing.specs.declared.listing.ListedMethod.{ListedMethod}
+use Rattle.wf_listing.specs.declared.listing.Statement.{Statement}
+use Rattle.wf_listing.specs.declared.listing.Step.{Step}
+use Rattle.wf_listing.specs.declared.listing.Step.TheVariants as step
 
 -- whether two constants are one
 abbrev pub same : Constant → Constant → Bool

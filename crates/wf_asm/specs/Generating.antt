@@ -1,18 +1,18 @@
 -- The programs of the generator (this project's own).
 use Rattle.std.specs.Prelude.{◌≡◌, ◌≢◌, ℕ, zero, suc, ◌+◌, ◌-◌, ◌*◌, ◌/◌, ◌%◌, Bool, true, false, List, [], ◌∷◌, ◌++◌, Option, Some, None, Ok, ◌==◌, nat_lt, codes, if◌then◌else◌}
 use Rattle.std.specs.Fmt.{decimal}
-use Rattle.wf_base.specs.declared.class_info.ClassInfo.{ClassInfo}
-use Rattle.wf_base.specs.NameForm.{member_of}
-use Rattle.wf_base.specs.Names.{object_name, constructor_name}
-use Rattle.wf_asm.specs.declared.listing.Constant.TheVariants as constant
-use Rattle.wf_asm.specs.declared.listing.Item.TheVariants as item
-use Rattle.wf_asm.specs.declared.listing.Listed.{Listed}
-use Rattle.wf_asm.specs.declared.listing.ListedMethod.{ListedMethod}
-use Rattle.wf_asm.specs.declared.listing.Statement.{Statement}
-use Rattle.wf_asm.specs.declared.listing.Step.{Step}
-use Rattle.wf_asm.specs.declared.listing.Step.TheVariants as step
+use Rattle.wf_data.specs.declared.class_info.ClassInfo.{ClassInfo}
+use Rattle.wf_names.specs.NameForm.{member_of}
+use Rattle.wf_names.specs.Names.{object_name, constructor_name}
+use Rattle.wf_listing.specs.declared.listing.Constant.TheVariants as constant
+use Rattle.wf_listing.specs.declared.listing.Item.TheVariants as item
+use Rattle.wf_listing.specs.declared.listing.Listed.{Listed}
+use Rattle.wf_listing.specs.declared.listing.ListedMethod.{ListedMethod}
+use Rattle.wf_listing.specs.declared.listing.Statement.{Statement}
+use Rattle.wf_listing.specs.declared.listing.Step.{Step}
+use Rattle.wf_listing.specs.declared.listing.Step.TheVariants as step
 use Rattle.wf_asm.specs.Building.{classes_of}
-use Rattle.wf_asm.specs.Lines.{using_constant}
+use Rattle.wf_listing.specs.Lines.{using_constant}
 
 -- ---- numbers
 

@@ -3,7 +3,4 @@ pub mod Building
 pub mod Constants
 pub mod Generating
 pub mod Giving
-pub mod Lines
 pub mod Putting
-pub mod Saying
-pub mod Words

@@ -1,29 +1,32 @@
 //! The classes that listings say.
 
-ghost use Rattle.std.specs.Prelude.{◌≡◌, ◌≤◌, length, map, option_map, IfOk};
+ghost use Rattle.std.specs.Prelude.{◌≡◌, ◌≤◌, length, map, option_map, option_and_then, IfOk};
 ghost use Rattle.std.specs.Option.{option_map_or};
-ghost use Rattle.wf_asm.specs.declared.listing.Constant.TheVariants as constant;
-ghost use Rattle.wf_asm.specs.declared.listing.Item.TheVariants as item;
-ghost use Rattle.wf_asm.specs.Building.{body_on, class_of, class_with, classes_of, code_in, code_of, field_of, handler_of, item_on, method_of, methods_of, nothing_yet, statement_on};
+ghost use Rattle.wf_listing.specs.declared.listing.Constant.TheVariants as constant;
+ghost use Rattle.wf_asm.specs.Building.{body_on, class_of, class_with, classes_of, code_in, code_of, field_of, handler_of, item_on, method_of, methods_of, nothing_yet, short_enough, statement_on, step_bytes, with_bytes, with_handler};
 ghost use Rattle.wf_asm.specs.Constants.{place_of};
 ghost use Rattle.wf_asm.specs.Giving.{Gives, GivesAs};
 ghost use Rattle.wf_asm.specs.Putting.{Puts};
-ghost use Rattle.wf_asm.specs.Saying.{Says};
+ghost use Rattle.wf_listing.specs.Saying.{Says};
 
+use crate::code::CodeSoFar;
 use crate::emit::put_step;
 use crate::fault::AsmFault;
 use crate::labels::{Labels, labels_of};
-use crate::listing::{
-    CodeSoFar, Constant, Item, Listed, ListedCatch, ListedField, ListedMethod, Statement, Step,
-};
 use crate::pool::Pool;
-use crate::stop::Stop;
 use crate::uses::constants_of;
 use std::alloc::{AllocError, Global};
-use wf_base::{ClassInfo, CodeInfo, FieldInfo, Handler, Items, MethodInfo, Text};
+use wf_base::{Items, Text};
+use wf_data::{ClassInfo, CodeInfo, FieldInfo, Handler, MethodInfo};
+use wf_listing::{
+    Constant, Item, Listed, ListedCatch, ListedField, ListedMethod, Statement, Step, Stop,
+};
 
 /// How many constants a pool has places for, besides place 0.
 const PLACES: usize = 65534;
+
+/// How many bytes a code may have (JVMS 4.7.3).
+const LONGEST: usize = 65535;
 
 /// The version of the class files, that of Java 8.
 const MAJOR: u16 = 52;
@@ -48,10 +51,14 @@ fn handler_of(pool: &Pool, labels: &Labels<'_>, catch: &ListedCatch) -> Result<H
     requires { length pool.now ≤ 65534 }
     ensures { Says result (handler_of pool.now labels.now catch.now) }
 {
-    let start = labels.place(catch.from.as_slice()).ok_or(Stop::NotOfForm)?;
-    let end = labels.place(catch.to.as_slice()).ok_or(Stop::NotOfForm)?;
+    let start = labels
+        .short_place(catch.from.as_slice())
+        .ok_or(Stop::NotOfForm)?;
+    let end = labels
+        .short_place(catch.to.as_slice())
+        .ok_or(Stop::NotOfForm)?;
     let target = labels
-        .place(catch.handler.as_slice())
+        .short_place(catch.handler.as_slice())
         .ok_or(Stop::NotOfForm)?;
     Ok(Handler {
         start,
@@ -68,7 +75,7 @@ fn put_handler(
     so_far: &mut CodeSoFar,
 ) -> Result<(), Stop>
     requires { length pool.now ≤ 65534 }
-    ensures { Puts result so_far.new (item_on pool.now labels.now so_far.old (item.Catch catch.now)) }
+    ensures { Puts result so_far.new (option_map (with_handler so_far.old) (handler_of pool.now labels.now catch.now)) }
 {
     let handler = handler_of(pool, labels, catch)?;
     match so_far.table.push(handler) {
@@ -84,27 +91,47 @@ fn put_code(
     so_far: &mut CodeSoFar,
 ) -> Result<(), Stop>
     requires { length pool.now ≤ 65534 }
-    ensures { Puts result so_far.new (item_on pool.now labels.now so_far.old (item.Step step.now)) }
+    ensures { Puts result so_far.new (option_map (with_bytes so_far.old) (step_bytes pool.now labels.now (length so_far.old.code) step.now)) }
 {
     let at = so_far.code.as_slice().len();
     put_step(pool, labels, at, step, &mut so_far.code)
 }
 
-/// Puts what an item adds.
+/// Puts what an item adds. A label has no bytes, and is given once.
 fn put_item(
     pool: &Pool,
     labels: &Labels<'_>,
+    line: u32,
     item: &Item,
     so_far: &mut CodeSoFar,
 ) -> Result<(), Stop>
     requires { length pool.now ≤ 65534 }
-    ensures { Puts result so_far.new (item_on pool.now labels.now so_far.old item.now) }
+    ensures { Puts result so_far.new (item_on pool.now labels.now line so_far.old item.now) }
 {
     match item {
+        Item::Label(name) if !labels.is_first(name.as_slice(), line) => Err(Stop::NotOfForm),
         Item::Label(_) => Ok(()),
         Item::Step(step) => put_code(pool, labels, step, so_far),
         Item::Catch(catch) => put_handler(pool, labels, catch, so_far),
     }
+}
+
+/// Puts what an item adds, where the code gets no longer than a code may be.
+fn put_short(
+    pool: &Pool,
+    labels: &Labels<'_>,
+    line: u32,
+    item: &Item,
+    so_far: &mut CodeSoFar,
+) -> Result<(), Stop>
+    requires { length pool.now ≤ 65534 }
+    ensures { Puts result so_far.new (option_and_then short_enough (item_on pool.now labels.now line so_far.old item.now)) }
+{
+    put_item(pool, labels, line, item, so_far)?;
+    if so_far.code.as_slice().len() > LONGEST {
+        return Err(Stop::NotOfForm);
+    }
+    Ok(())
 }
 
 /// Puts what a statement adds, which goes wrong at its line.
@@ -117,7 +144,7 @@ fn put_statement(
     requires { length pool.now ≤ 65534 }
     ensures { GivesAs (λ _. so_far.new) result (statement_on pool.now labels.now so_far.old statement.now) }
 {
-    match put_item(pool, labels, &statement.says, so_far) {
+    match put_short(pool, labels, statement.line, &statement.says, so_far) {
         Ok(()) => Ok(()),
         Err(Stop::NotOfForm) => Err(AsmFault::BadLine {
             line: statement.line,

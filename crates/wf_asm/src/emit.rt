@@ -8,18 +8,17 @@ ghost use Rattle.wf_asm.specs.Constants.{place_of};
 ghost use Rattle.wf_asm.specs.Putting.{Puts};
 
 use crate::labels::{Labels, padding};
-use crate::listing::{Constant, ListedCase, ListedLookup, ListedTable, Step, Use};
 use crate::pool::Pool;
-use crate::stop::Stop;
 use std::alloc::AllocError;
 use wf_base::Text;
+use wf_listing::{Constant, ListedCase, ListedLookup, ListedTable, Step, Stop, Use};
 
 /// How far a label is from a place.
 fn distance(labels: &Labels<'_>, at: usize, name: &Text) -> Option<i128>
     ensures { result ≡ distance labels.now at name.now }
 {
     let to = labels.place(name.as_slice())?;
-    Some(i128::from(to) - at as i128)
+    Some(to as i128 - at as i128)
 }
 
 /// Puts a signed number in two bytes, where it has room.

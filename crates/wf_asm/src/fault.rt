@@ -7,7 +7,7 @@ use thiserror::Error;
 /// Why a listing gives no classes.
 #[derive(Debug, Drop, Error)]
 pub enum AsmFault {
-    /// The first line that isn't of the form, counted from 1.
+    /// The least line that isn't of the form, counted from 1.
     #[error("bad line")]
     BadLine { line: u32 },
     #[error("no memory")]

@@ -1,20 +1,22 @@
 //! Programs of any size whose classes call one another.
 
 ghost use Rattle.std.specs.Prelude.{◌≡◌, ◌++◌, ◌∷◌, [], ◌<◌, All, Ok, codes, IfOk, IsOk, OnOk};
-ghost use Rattle.wf_base.specs.NameForm.{member_of};
-ghost use Rattle.wf_base.specs.Writing.{HasSpelling};
-ghost use Rattle.wf_asm.specs.declared.listing.Constant.TheVariants as constant;
-ghost use Rattle.wf_asm.specs.declared.listing.Item.TheVariants as item;
-ghost use Rattle.wf_asm.specs.declared.listing.Step.TheVariants as step;
+ghost use Rattle.wf_names.specs.NameForm.{member_of};
+ghost use Rattle.wf_grammar.specs.Writing.{HasSpelling};
+ghost use Rattle.wf_listing.specs.declared.listing.Constant.TheVariants as constant;
+ghost use Rattle.wf_listing.specs.declared.listing.Item.TheVariants as item;
+ghost use Rattle.wf_listing.specs.declared.listing.Step.TheVariants as step;
 ghost use Rattle.wf_asm.specs.Building.{class_of};
 ghost use Rattle.wf_asm.specs.Generating.{HaveOwnNames, IsProgramOf, body_of, branches, class_at, class_listed, class_name, generated_class, label_name, main_of, makes, method, next_state, number_of, object_class, returns, state_behind, statement, super_of, void_desc};
-ghost use Rattle.wf_asm.specs.Lines.{using_constant};
+ghost use Rattle.wf_listing.specs.Lines.{using_constant};
 
 use crate::build::class_of;
 use crate::fault::AsmFault;
-use crate::listing::{Constant, Item, Listed, ListedMethod, Statement, Step, Use};
 use std::alloc::{AllocError, Global};
-use wf_base::{ClassInfo, Items, MemberName, Text};
+use wf_base::{Items, Text};
+use wf_data::ClassInfo;
+use wf_listing::{Constant, Item, Listed, ListedMethod, Statement, Step, Use};
+use wf_names::MemberName;
 
 /// The state after a number is drawn.
 pub fn next_state(state: u32) -> u32

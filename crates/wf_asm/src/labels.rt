@@ -1,24 +1,29 @@
 //! The labels of a body and their places.
 
-ghost use Rattle.std.specs.Prelude.{◌≡◌, ◌+◌, ◌*◌, ◌≤◌, min, [], length, OnOk};
+ghost use Rattle.std.specs.Prelude.{◌≡◌, ◌==◌, ◌+◌, ◌*◌, ◌^◌, ◌≤◌, min, [], length, IfOk, OnOk};
 ghost use Rattle.wf_opcode.specs.Instructions.{padding};
-ghost use Rattle.wf_asm.specs.Building.{address_of, behind, labels_on, size_of_item, size_of_step, with_label, with_label_of};
-ghost use Rattle.wf_asm.specs.Giving.{Gives};
+ghost use Rattle.wf_asm.specs.Building.{spot_of, address_of, short_address_of, is_first, behind, labels_on, size_of_item, size_of_step, with_label, with_label_of};
 
-use crate::fault::AsmFault;
-use crate::listing::{Item, Statement, Step};
 use crate::pool::Pool;
 use indexmap::IndexMap;
 use std::alloc::{AllocError, Global};
 use std::marker::Model;
+use wf_listing::{Item, Statement, Step};
 
-/// One more than a code has bytes.
-const TOO_LONG: usize = 65536;
+/// How far places are counted: no jump reaches further.
+const FAR: usize = 4294967296;
+
+/// Where a label is, and the line that gives it.
+#[derive(Clone, Copy, Debug)]
+pub struct Spot {
+    pub at: usize,
+    pub line: u32,
+}
 
 /// Labels with their places, in the order in which they stand.
 #[derive(Drop)]
 pub struct Labels<'a> {
-    places: IndexMap<&'a [u8], u16>,
+    places: IndexMap<&'a [u8], Spot>,
 }
 
 impl<'a> Model for Labels<'a> {
@@ -39,29 +44,52 @@ impl<'a> Labels<'a> {
         }
     }
 
-    /// Where a label is.
-    pub fn place(&self, name: &[u8]) -> Option<u16>
-        ensures { result ≡ address_of self.now name.now }
+    fn spot(&self, name: &[u8]) -> Option<Spot>
+        ensures { result ≡ spot_of self.now name.now }
     {
         self.places.get(name).copied()
     }
 
-    /// Adds a label, if it isn't there.
-    fn add(&mut self, name: &'a [u8], at: u16) -> Result<(), AllocError>
-        ensures { OnOk result (self.new ≡ with_label self.old name.now at) }
+    /// Where a label is.
+    pub fn place(&self, name: &[u8]) -> Option<usize>
+        ensures { result ≡ address_of self.now name.now }
     {
-        if self.place(name).is_some() {
+        Some(self.spot(name)?.at)
+    }
+
+    /// Where a label is, in two bytes.
+    pub fn short_place(&self, name: &[u8]) -> Option<u16>
+        ensures { result ≡ short_address_of self.now name.now }
+    {
+        u16::try_from(self.place(name)?).ok()
+    }
+
+    /// Whether this line is the first that gives the label.
+    pub fn is_first(&self, name: &[u8], line: u32) -> bool
+        ensures { result ≡ is_first self.now name.now line }
+    {
+        match self.spot(name) {
+            Some(spot) => spot.line == line,
+            None => false,
+        }
+    }
+
+    /// Adds a label, if it isn't there.
+    fn add(&mut self, name: &'a [u8], spot: Spot) -> Result<(), AllocError>
+        ensures { OnOk result (self.new ≡ with_label self.old name.now spot) }
+    {
+        if self.spot(name).is_some() {
             return Ok(());
         }
-        self.places.insert(name, at)?;
+        self.places.insert(name, spot)?;
         Ok(())
     }
 
-    fn add_item(&mut self, at: u16, item: &'a Item) -> Result<(), AllocError>
-        ensures { OnOk result (self.new ≡ with_label_of self.old at item.now) }
+    fn add_item(&mut self, at: usize, line: u32, item: &'a Item) -> Result<(), AllocError>
+        ensures { OnOk result (self.new ≡ with_label_of self.old at line item.now) }
     {
         match item {
-            Item::Label(name) => self.add(name.as_slice(), at),
+            Item::Label(name) => self.add(name.as_slice(), Spot { at, line }),
             _ => Ok(()),
         }
     }
@@ -74,34 +102,34 @@ pub fn padding(at: usize) -> usize
     3 - at % 4
 }
 
-/// How many bytes an instruction takes, up to `TOO_LONG`.
-fn size_of_step(pool: &Pool, at: u16, step: &Step) -> usize
+/// How many bytes an instruction takes, up to `FAR`.
+fn size_of_step(pool: &Pool, at: usize, step: &Step) -> usize
     requires { length pool.now ≤ 65534 }
-    ensures { result ≡ min (size_of_step pool.now at step.now) TOO_LONG }
+    ensures { result ≡ min (size_of_step pool.now at step.now) FAR }
 {
     match step {
-        Step::Fixed(bytes) => bytes.as_slice().len().min(TOO_LONG),
+        Step::Fixed(bytes) => bytes.as_slice().len().min(FAR),
         Step::Jump(_, _) => 3,
         Step::FarJump(_, _) => 5,
         Step::Table(table) => {
-            let keys = table.targets.len().min(TOO_LONG);
-            (13 + padding(at as usize) + 4 * keys).min(TOO_LONG)
+            let keys = table.targets.len().min(FAR);
+            (13 + padding(at) + 4 * keys).min(FAR)
         }
         Step::Lookup(lookup) => {
-            let cases = lookup.cases.len().min(TOO_LONG);
-            (9 + padding(at as usize) + 8 * cases).min(TOO_LONG)
+            let cases = lookup.cases.len().min(FAR);
+            (9 + padding(at) + 8 * cases).min(FAR)
         }
         Step::Use(used) => {
-            let rest = used.rest.as_slice().len().min(TOO_LONG);
-            (3 + rest).min(TOO_LONG)
+            let rest = used.rest.as_slice().len().min(FAR);
+            (3 + rest).min(FAR)
         }
         Step::Load(constant) => { if pool.place(constant) <= 255 { 2 } else { 3 } }
     }
 }
 
-fn size_of_item(pool: &Pool, at: u16, item: &Item) -> usize
+fn size_of_item(pool: &Pool, at: usize, item: &Item) -> usize
     requires { length pool.now ≤ 65534 }
-    ensures { result ≡ min (size_of_item pool.now at item.now) TOO_LONG }
+    ensures { result ≡ min (size_of_item pool.now at item.now) FAR }
 {
     match item {
         Item::Step(step) => size_of_step(pool, at, step),
@@ -109,35 +137,30 @@ fn size_of_item(pool: &Pool, at: u16, item: &Item) -> usize
     }
 }
 
-/// The place behind an item, in a code that isn't too long.
-fn behind(pool: &Pool, at: u16, item: &Item) -> Option<u16>
-    requires { length pool.now ≤ 65534 }
-    ensures { result ≡ behind pool.now at item.now }
+/// The place behind an item.
+fn behind(pool: &Pool, at: usize, item: &Item) -> usize
+    requires few { length pool.now ≤ 65534 }
+    requires near { at ≤ 2 ^ 32 }
+    ensures place { result ≡ behind pool.now at item.now }
+    ensures near { result ≤ 2 ^ 32 }
 {
-    let next = at as usize + size_of_item(pool, at, item);
-    u16::try_from(next).ok()
+    (at + size_of_item(pool, at, item)).min(FAR)
 }
 
-/// The labels of a body, or the first line at which its code gets too long.
-#[tactic(auto, using(crate::proofs::BodyLaws::labels_next, crate::proofs::BodyLaws::labels_stop, crate::proofs::BodyLaws::labels_done))]
+/// The labels of a body.
 pub fn labels_of<'a>(
     alloc: Global,
     pool: &Pool,
     body: &'a [Statement],
-) -> Result<Labels<'a>, AsmFault>
+) -> Result<Labels<'a>, AllocError>
     requires { length pool.now ≤ 65534 }
-    ensures { Gives result (labels_on pool.now 0 [] body.now) }
+    ensures { IfOk result (λ labels. labels ≡ labels_on pool.now 0 [] body.now) }
 {
     let mut labels = Labels::new(alloc);
     let mut at = 0;
     for statement in body {
-        let Some(next) = behind(pool, at, &statement.says) else {
-            return Err(AsmFault::BadLine {
-                line: statement.line,
-            });
-        };
-        labels.add_item(at, &statement.says)?;
-        at = next;
+        labels.add_item(at, statement.line, &statement.says)?;
+        at = behind(pool, at, &statement.says);
     }
     Ok(labels)
 }

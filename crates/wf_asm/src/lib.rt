@@ -1,26 +1,21 @@
-//! Listings, the text form of class files in which tests and examples are written, and a generator of large
-//! programs.
+//! The classes that listings say, assembled, and a generator of large programs.
 #![tactic(auto)]
 
 mod assembler;
 mod build;
+mod code;
 mod emit;
 mod fault;
 mod generator;
 mod labels;
-mod lines;
-mod listing;
-mod names;
-mod numbers;
+mod laws;
 mod pool;
-mod read;
-mod stop;
 mod uses;
-mod words;
 
 pub use assembler::assemble;
 pub use fault::AsmFault;
 pub use generator::make_program;
+pub use laws::sizes_are_lengths;
 
 #[cfg(test)]
 mod tests;

@@ -1,15 +1,17 @@
 //! The constants of a class.
 
 ghost use Rattle.std.specs.Prelude.{◌≡◌, ◌+◌, ◌≤◌, [], ◌∷◌, length, IfOk, OnOk};
-ghost use Rattle.wf_base.specs.declared.member.MemberName.{MemberName};
-ghost use Rattle.wf_asm.specs.declared.listing.Constant.TheVariants as constant;
+ghost use Rattle.wf_names.specs.declared.member.MemberName.{MemberName};
+ghost use Rattle.wf_listing.specs.declared.listing.Constant.TheVariants as constant;
 ghost use Rattle.wf_asm.specs.Constants.{class_parts, name_type_parts, member_parts, parts_of, with_constant, with_constants, place_of, entry_of, pool_of};
 
-use crate::listing::Constant;
 use indexmap::IndexSet;
 use std::alloc::{AllocError, Global};
 use std::marker::Model;
-use wf_base::{Items, MemberName, PoolEntry, Text};
+use wf_base::{Items, Text};
+use wf_data::PoolEntry;
+use wf_listing::Constant;
+use wf_names::MemberName;
 
 /// The constants that a class uses, in the order of their places from 1 on.
 #[derive(Drop)]
@@ -19,7 +21,7 @@ pub struct Pool {
 
 impl Model for Pool {
     ghost use Rattle.std.specs.Prelude.{List};
-    ghost use Rattle.wf_asm.specs.declared.listing.Constant.{Constant};
+    ghost use Rattle.wf_listing.specs.declared.listing.Constant.{Constant};
 
     ghost Value = { List Constant };
 

@@ -1,4 +1,3 @@
 mod building;
 mod faults;
-mod forms;
 mod generator;

@@ -5,10 +5,10 @@ ghost use Rattle.std.specs.List.{flat_map};
 ghost use Rattle.std.specs.Option.{option_map_or};
 ghost use Rattle.wf_asm.specs.Constants.{class_parts, with_constants, uses_of_step, uses_of_item, uses_of_statement, uses_of_body, uses_of_method, uses_of_value, uses_of_field, uses_of_head, uses_of, constants_of};
 
-use crate::listing::{Constant, Item, Listed, ListedField, ListedMethod, Statement, Step};
 use crate::pool::Pool;
 use std::alloc::{AllocError, Global};
 use wf_base::Text;
+use wf_listing::{Constant, Item, Listed, ListedField, ListedMethod, Statement, Step};
 
 /// The attribute that holds a method's code.
 pub const CODE: &[u8] = b"Code";

@@ -1,13 +1,13 @@
 use crate::build::class_of;
 use crate::fault::AsmFault;
-use crate::listing::{
-    Constant, Item, Listed, ListedCase, ListedCatch, ListedLookup, ListedMethod, ListedTable,
-    Statement, Step,
-};
 use std::alloc::{AllocError, Global};
 use std::process::Abort;
 use std::test::Fail;
 use wf_base::{Items, Text};
+use wf_listing::{
+    Constant, Item, Listed, ListedCase, ListedCatch, ListedLookup, ListedMethod, ListedTable,
+    Statement, Step,
+};
 
 fn label(alloc: Global, name: &[u8]) -> Result<Item, AllocError> {
     Ok(Item::Label(Text::from_slice(alloc, name)?))

@@ -1,4 +1,4 @@
-//! Listings that aren't of the form.
+//! The least line of a listing that isn't of the form.
 
 use crate::{AsmFault, assemble};
 use std::process::Abort;
@@ -14,17 +14,21 @@ fn faulty_line(rt: &(impl Abort + AllocGlobal), text: &[u8]) -> u32 {
 }
 
 #[test]
-fn first_lines(rt: HostRuntime) {
+fn one_line(rt: HostRuntime) {
     assert_eq!(rt; faulty_line(&rt, b"clas A"), 1);
-    assert_eq!(rt; faulty_line(&rt, b"# a\n\n  class A\nend\n"), 4);
-    assert_eq!(rt; faulty_line(&rt, b"field I x"), 1);
-}
-
-#[test]
-fn ends(rt: HostRuntime) {
     assert_eq!(rt; faulty_line(&rt, b"class A\nmethod f ()V\nreturn\n"), 4);
-    assert_eq!(rt; faulty_line(&rt, b"class A\nmethod f ()V\nreturn"), 4);
-    assert_eq!(rt; faulty_line(&rt, b"class A\nmethod native f ()V\nend\n"), 3);
+    assert_eq!(rt;
+        faulty_line(&rt, b"class A\nmethod f ()V\nreturn\nend\n"),
+        0
+    );
+    assert_eq!(rt;
+        faulty_line(&rt, b"class A\nmethod f ()V\ngoto L\nend\n"),
+        3
+    );
+    assert_eq!(rt;
+        faulty_line(&rt, b"class A\nmethod f ()V\nL:\ncatch L M L any\nend\n"),
+        4
+    );
 }
 
 #[test]
@@ -37,29 +41,32 @@ fn labels_given_twice(rt: HostRuntime) {
         faulty_line(&rt, b"class A\nmethod f ()V\nL:\nM:\nreturn\nend\n"),
         0
     );
-}
-
-#[test]
-fn flags_given_twice(rt: HostRuntime) {
-    assert_eq!(rt; faulty_line(&rt, b"class A\nfield static static x I\n"), 2);
-    assert_eq!(rt; faulty_line(&rt, b"class A\nfield static package x I\n"), 0);
-}
-
-#[test]
-fn numbers(rt: HostRuntime) {
-    assert_eq!(rt; faulty_line(&rt, b"class A\nfield x I = -1\n"), 0);
-    assert_eq!(rt; faulty_line(&rt, b"class A\nfield x I = -0\n"), 2);
-    assert_eq!(rt; faulty_line(&rt, b"class A\nfield x I = 01\n"), 2);
-    assert_eq!(rt; faulty_line(&rt, b"class A\nfield x I = 2147483648\n"), 2);
-}
-
-#[test]
-fn words(rt: HostRuntime) {
-    assert_eq!(rt; faulty_line(&rt, b"class  A\n"), 1);
-    assert_eq!(rt; faulty_line(&rt, b"class \\41\n"), 1);
-    assert_eq!(rt; faulty_line(&rt, b"class \\5c\r\n"), 0);
     assert_eq!(rt;
-        faulty_line(&rt, b"class A\nmethod f ()V\ninvokedynamic A.f ()V\nend\n"),
+        faulty_line(&rt, b"class A\nmethod f ()V\nL:\ngoto M\nL:\nend\n"),
+        4
+    );
+}
+
+/// A label that isn't given counts before a later line of wrong words, and so does a key out of range.
+#[test]
+fn the_least_counts(rt: HostRuntime) {
+    assert_eq!(rt;
+        faulty_line(&rt, b"class A\nmethod f ()V\ngoto L\nnop\nnope\nend\n"),
         3
+    );
+    assert_eq!(rt;
+        faulty_line(&rt, b"class A\nmethod f ()V\ngoto L\nnop\nnope\nL:\nend\n"),
+        5
+    );
+    assert_eq!(rt;
+        faulty_line(&rt, b"class A\nmethod f ()V\nnope\ngoto L\nend\n"),
+        3
+    );
+    assert_eq!(rt;
+        faulty_line(
+            &rt,
+            b"class A\nmethod f ()V\nL:\nlookupswitch 2147483648 L default L\ngoto M\nend\n"
+        ),
+        4
     );
 }

@@ -1,7 +1,7 @@
 use crate::generator::{make_program, next_state, number_of};
 use std::process::Abort;
 use std::test::Fail;
-use wf_base::{ClassInfo, PoolEntry};
+use wf_data::{ClassInfo, PoolEntry};
 
 #[test]
 fn numbers_are_drawn(rt: HostRuntime) {

@@ -1,7 +1,0 @@
-use Rattle.std.proofs.Common.{◌≡◌, drop}
-use Rattle.wf_asm.specs.Lines.{each_of, label_said, labels_said}
-use Rattle.wf_asm.proofs.Each.{with_front}
-use Rattle.wf_asm.proofs.lines.words.labels_said.Given as goal
-
-abbrev pub invariant-loop-word : goal.invariant-loop-word
-invariant-loop-word l = with_front l.labels.items (each_of label_said (drop l.word-index l.words)) ≡ labels_said l.words

@@ -1,8 +1,0 @@
-use Rattle.std.proofs.Common.{◌≡◌, drop}
-use Rattle.wf_base.specs.NameForm.{name_of}
-use Rattle.wf_asm.specs.Lines.{each_of, names_of}
-use Rattle.wf_asm.proofs.Each.{with_front}
-use Rattle.wf_asm.proofs.lines.words.names_said.Given as goal
-
-abbrev pub invariant-loop-word : goal.invariant-loop-word
-invariant-loop-word l = with_front l.names.items (each_of name_of (drop l.word-index l.words)) ≡ names_of l.words

@@ -1,6 +1,0 @@
-use Rattle.std.proofs.Common.{◌≡◌, take, drop}
-use Rattle.wf_asm.specs.Words.{lines_from, lines_of}
-use Rattle.wf_asm.proofs.words.next_line.Given as goal
-
-abbrev pub invariant-loop-i : goal.invariant-loop-i
-invariant-loop-i l = lines_from (take l.i l.text) (drop l.i l.text) ≡ lines_of l.text

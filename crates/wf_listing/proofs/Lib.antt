@@ -1,0 +1,4 @@
+mod Cases
+mod Each
+mod Reading
+mod Slots
