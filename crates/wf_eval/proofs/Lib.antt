@@ -1,0 +1,11 @@
+pub mod SaidLaws
+pub mod Walks
+pub mod SetLaws
+pub mod PlanLaws
+pub mod OpLaws
+pub mod PairLaws
+pub mod WordLaws
+pub mod AnswerLaws
+pub mod PlannedLaws
+pub mod RaiseLaws
+pub mod EndLaws

@@ -1,0 +1,6 @@
+pub mod Said
+pub mod Reading
+pub mod Plans
+pub mod Answers
+pub mod Kept
+pub mod Raising

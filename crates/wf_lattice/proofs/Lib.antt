@@ -1,0 +1,7 @@
+pub mod BitLaws
+pub mod RowLaws
+pub mod OrderLaws
+pub mod IntLaws
+pub mod JoinLaws
+pub mod FilterLaws
+pub mod SetLaws

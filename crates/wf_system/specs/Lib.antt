@@ -1,0 +1,9 @@
+pub mod Rows
+pub mod System
+pub mod Fits
+pub mod Members
+pub mod Shapes
+pub mod Sides
+pub mod Bodies
+pub mod ReadersList
+pub mod Numbers
