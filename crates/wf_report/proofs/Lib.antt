@@ -1,0 +1,5 @@
+mod Cutting
+mod Entries
+mod Forms
+mod Orders
+mod WorldLaw

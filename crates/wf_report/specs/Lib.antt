@@ -1,0 +1,4 @@
+pub mod Giving
+pub mod Reading
+pub mod Report
+pub mod Worlds
