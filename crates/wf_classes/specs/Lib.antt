@@ -1,0 +1,10 @@
+pub mod Above
+pub mod Closing
+pub mod Gathering
+pub mod Kept
+pub mod KeyedLists
+pub mod Links
+pub mod Members
+pub mod Own
+pub mod Sizes
+pub mod World

@@ -1,0 +1,4 @@
+pub mod Collecting
+pub mod Making
+pub mod Naming
+pub mod TypeFacts

@@ -1,0 +1,13 @@
+//! The types of a run: the classes that have objects and the arrays that are made, by their names.
+#![tactic(auto)]
+
+mod reference;
+mod types;
+mod universe;
+
+pub use reference::{Inner, Reference, component_of, reference_of};
+pub use types::{Types, types_of};
+pub use universe::type_names;
+
+#[cfg(test)]
+mod tests;
