@@ -1,0 +1,2 @@
+pub mod OverridingLaws
+pub mod PackageWalk

@@ -1,0 +1,4 @@
+pub mod Overriding
+pub mod Packages
+pub mod Selection
+pub mod Walking

@@ -1,0 +1,12 @@
+//! The method that runs where one is called (JVMS 6.5): selected from the class of the receiver upwards.
+#![tactic(auto)]
+
+mod invokespecial;
+mod outcome;
+mod overriding;
+mod package;
+mod receiver;
+
+pub use invokespecial::special;
+pub use outcome::{Invoke, Selected};
+pub use receiver::select;
