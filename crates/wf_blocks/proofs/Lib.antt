@@ -1,0 +1,16 @@
+pub mod AfterLemmas
+pub mod AnswerLemmas
+pub mod BackLemmas
+pub mod BodyLemmas
+pub mod CountLemmas
+pub mod EdgeLemmas
+pub mod FirstLemmas
+pub mod FlowLemmas
+pub mod LawLemmas
+pub mod MarkLemmas
+pub mod MethodLemmas
+pub mod PathLemmas
+pub mod RowLemmas
+pub mod SeenLemmas
+pub mod WalkLemmas
+pub mod WayLemmas

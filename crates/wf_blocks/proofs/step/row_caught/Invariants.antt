@@ -1,0 +1,9 @@
+use Rattle.std.proofs.Common.{◌≡◌}
+use Rattle.std.specs.Prelude.{map}
+use Rattle.std.specs.List.{range_with_len}
+use Rattle.wf_operation.specs.declared.slot.Source.TheVariants.{Keep}
+use Rattle.wf_blocks.specs.Rows.{seen_after}
+use Rattle.wf_blocks.proofs.step.row_caught.Given as goal
+
+abbrev pub invariant-loop-i : goal.invariant-loop-i
+invariant-loop-i l = l.after.items ≡ seen_after l.row (map Keep (range_with_len 0 l.i))

@@ -1,0 +1,10 @@
+pub mod Advancing
+pub mod Answers
+pub mod Bodies
+pub mod Flowing
+pub mod Graphs
+pub mod Methods
+pub mod Places
+pub mod Rows
+pub mod SeenKinds
+pub mod Walking

@@ -1,0 +1,7 @@
+pub mod Effects
+pub mod Nexts
+pub mod Operations
+pub mod PoolSlots
+pub mod Signatures
+pub mod Slots
+pub mod Sorts
