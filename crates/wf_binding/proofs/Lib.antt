@@ -1,0 +1,10 @@
+pub mod BlockLines
+pub mod EffectLines
+pub mod Finding
+pub mod LiteralLines
+pub mod Numbered
+pub mod RootLines
+pub mod ShortDescriptors
+pub mod SummaryLines
+pub mod TypeNames
+pub mod ValidLines
