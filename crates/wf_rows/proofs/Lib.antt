@@ -1,0 +1,5 @@
+pub mod Adding
+pub mod Listed
+pub mod Membership
+pub mod Numbered
+pub mod Targets
