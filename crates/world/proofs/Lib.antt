@@ -1,5 +1,5 @@
+mod ClauseLaws
+mod LoadLaws
 mod OutcomeLaws
 mod OutputLaws
 mod WordLaws
-mod MadeLaws
-mod StopLaws

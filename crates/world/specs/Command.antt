@@ -2,8 +2,6 @@
 use Rattle.std.specs.Prelude.{◌≡◌, ℕ, List, [], ◌∷◌, Some, slice_get, codes, map}
 use Rattle.std.specs.Str.{IsUtf8}
 use Rattle.std.specs.Global.{Vec}
-use Rattle.wf_run.specs.declared.fault.RunFault.{RunFault}
-use Rattle.wf_run.specs.declared.fault.RunFault.TheVariants.{Unbuilt, NoMemory}
 
 -- a word that is a path: it is UTF-8, and begins with `-` only if it is `-`
 pub record IsPath (word : List ℕ) : Type 0 where
@@ -19,9 +17,3 @@ pub record IsCommand (words : List (List ℕ)) (roots dir : List ℕ) : Type 0 w
 -- the bytes of each word
 abbrev pub words_of : List (Vec ℕ) → List (List ℕ)
 words_of words = map (λ w. w.items) words
-
--- a fault of reading the words: they are no command, or memory ran out
-abbrev pub IsOfWords : List (List ℕ) → RunFault → Type 0
-IsOfWords words Unbuilt = (roots dir : List ℕ) → IsCommand words roots dir → ⊥
-IsOfWords words NoMemory = Unit {0}
-IsOfWords words fault = ⊥

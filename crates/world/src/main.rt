@@ -4,7 +4,6 @@
 mod command;
 mod load;
 mod output;
-mod report;
 mod run;
 
 use output::tell;

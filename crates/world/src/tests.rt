@@ -1,6 +1,7 @@
 //! The rows of the top call over a tree and sinks in memory.
 
 mod bad;
+mod hierarchy;
 mod limits;
 mod listings;
 mod path;
@@ -251,7 +252,7 @@ fn roots_of_the_form(rt: HostRuntime) -> Result<(), Fail> {
 #[test]
 fn other_input_is_not_built(rt: HostRuntime) -> Result<(), Fail> {
     let alloc = rt.alloc();
-    let cases: [[File; 3]; 11] = [
+    let cases: [[File; 3]; 10] = [
         // roots files
         row("d/A.class", Content::Class("A"), b"static A.nope ()V\n"),
         row("d/A.class", Content::Class("A"), b"static A.main ()V\n\n"),
@@ -271,8 +272,6 @@ fn other_input_is_not_built(rt: HostRuntime) -> Result<(), Fail> {
             b"static java/lang/Object.<init> ()V\n",
         ),
         row("d/A.class", Content::Class("A"), b""),
-        // a class at another path
-        row("d/B.class", Content::Class("A"), b"static A.main ()V\n"),
     ];
     for (i, files) in cases.iter().enumerate() {
         let ran = run(
@@ -296,9 +295,31 @@ fn row(path: &'static str, class: Content, roots: &'static [u8]) -> [File; 3] {
     ]
 }
 
+/// A class at another path than that of its name is refused before a later file is read.
+#[test]
+fn class_at_another_path(rt: HostRuntime) -> Result<(), Fail> {
+    let alloc = rt.alloc();
+    for (path, line) in [
+        ("d/B.class", "wrong name in d/B.class: A\n"),
+        ("d/A/A.class", "wrong name in d/A/A.class: A\n"),
+    ] {
+        let files = row(path, Content::Class("A"), b"static A.main ()V\n");
+        let ran = run(
+            &rt,
+            &WORDS,
+            tree(alloc, &files, &[9])?,
+            sink(alloc, 1000, &[])?,
+        )?;
+        assert_eq!(rt; ran.status, 3);
+        assert_eq!(rt; ran.err.bytes(), line.as_bytes());
+        assert_eq!(rt; ran.out.bytes().len(), 0);
+    }
+    Ok(())
+}
+
 /// Without `java/lang/Object` the roots file isn't read.
 #[test]
-fn no_object_is_not_built(rt: HostRuntime) -> Result<(), Fail> {
+fn no_object(rt: HostRuntime) -> Result<(), Fail> {
     let alloc = rt.alloc();
     let files = [("d/A.class", Content::Class("A"))];
     let ran = run(
@@ -307,7 +328,11 @@ fn no_object_is_not_built(rt: HostRuntime) -> Result<(), Fail> {
         tree(alloc, &files, &[])?,
         sink(alloc, 1000, &[])?,
     )?;
-    assert_eq!(rt; ran.status, 10);
+    assert_eq!(rt; ran.status, 3);
+    assert_eq!(rt;
+        ran.err.bytes(),
+        b"java/lang/Object is not loadable\n".as_slice()
+    );
     let files = [("d/java/lang/Object.class", Content::Object)];
     let ran = run(
         &rt,

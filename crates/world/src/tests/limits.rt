@@ -1,7 +1,8 @@
 //! Trees at a limit and past it. What is refused at a limit makes no further call, so a call that is told to
 //! fail shows whether it was made.
 
-ghost use Rattle.std.specs.Prelude.{None};
+ghost use Rattle.std.specs.Prelude.{None, ◌≤◌, length, IfOk};
+ghost use Rattle.wf_io.specs.Calls.{log_of};
 
 use super::{FIRST_ROW, File, Ran, WORDS, bytes_of, push_text, run, sink};
 use crate::run::world_run;
@@ -9,7 +10,7 @@ use std::alloc::{AllocError, Global};
 use std::test::Fail;
 use std::thread::Threads;
 use wf_base::{Items, Text};
-use wf_io::{Entry, MemFile, Tree, TreeFault, TreeMem};
+use wf_io::{Calls, Entry, MemFile, Tree, TreeFault, TreeMem};
 
 fn push_files(alloc: Global, out: &mut Vec<MemFile>, files: &[File]) -> Result<(), Fail> {
     for (path, content) in files {
@@ -167,6 +168,29 @@ struct LargeFiles {
     /// The inside of the attribute that makes a file so long.
     inside: Vec<u8>,
     reads: u32,
+    calls: Calls,
+}
+
+/// The bytes of such a file, of which two bytes of its path are the name of the class.
+fn bytes_at(alloc: Global, path: &Text, inside: &[u8], most: u32) -> Result<Text, TreeFault>
+    ensures { IfOk result (λ bytes. length bytes ≤ most) }
+{
+    let name = path.as_slice().get(2..4).unwrap_or_default();
+    let bytes = Text::from_vec(large_file(alloc, name, inside)?);
+    if bytes.as_slice().len() > most as usize {
+        return Err(TreeFault::More);
+    }
+    Ok(bytes)
+}
+
+fn entries_in(alloc: Global, most: u32) -> Result<Items<Entry>, TreeFault>
+    ensures { IfOk result (λ entries. length entries ≤ most) }
+{
+    let entries = large_files(alloc)?;
+    if entries.len() > most as usize {
+        return Err(TreeFault::More);
+    }
+    Ok(Items::from_vec(entries))
 }
 
 /// The bytes of such a file: a class with this name and one attribute.
@@ -194,32 +218,21 @@ fn large_files(alloc: Global) -> Result<Vec<Entry>, AllocError> {
 }
 
 impl Tree for LargeFiles {
-    ghost told = { λ _. None };
+    ghost seen = { λ t. record { told = None; log = log_of t.calls } };
 
-    ghost last_failed = { λ _. None };
-
-    ghost count = { λ _. 0 };
-
-    fn list(&mut self, alloc: Global, _: &Text, most: u32) -> Result<Items<Entry>, TreeFault> {
-        let entries = large_files(alloc)?;
-        if entries.len() > most as usize {
-            return Err(TreeFault::More);
-        }
-        Ok(Items::from_vec(entries))
+    fn list(&mut self, alloc: Global, dir: &Text, most: u32) -> Result<Items<Entry>, TreeFault> {
+        let answer = entries_in(alloc, most);
+        self.calls.listed(dir, most, answer)
     }
 
     fn read(&mut self, alloc: Global, path: &Text, most: u32) -> Result<Text, TreeFault> {
         self.reads = self.reads.saturating_add(1);
-        let name = path.as_slice().get(2..4).unwrap_or_default();
-        let bytes = Text::from_vec(large_file(alloc, name, &self.inside)?);
-        if bytes.as_slice().len() > most as usize {
-            return Err(TreeFault::More);
-        }
-        Ok(bytes)
+        let answer = bytes_at(alloc, path, &self.inside, most);
+        self.calls.was_read(path, most, answer)
     }
 
     fn faults(&self) -> u64 {
-        0
+        self.calls.failures()
     }
 }
 
@@ -229,7 +242,11 @@ fn bytes_of_all_files(rt: HostRuntime) -> Result<(), Fail> {
     let alloc = rt.alloc();
     let mut inside = Vec::new(alloc);
     inside.resize(16777156, 0)?;
-    let mut tree = LargeFiles { inside, reads: 0 };
+    let mut tree = LargeFiles {
+        inside,
+        reads: 0,
+        calls: Calls::none(),
+    };
     let mut words = Vec::new(alloc);
     for word in WORDS {
         words.push(word.as_bytes().to_vec(alloc)?)?;

@@ -5,8 +5,9 @@ use std::alloc::Global;
 use std::test::Fail;
 use std::thread::Threads;
 use wf_asm::assemble;
-use wf_base::{ClassInfo, Items, Text};
+use wf_base::{Items, Text};
 use wf_classfile::write_class;
+use wf_data::ClassInfo;
 use wf_io::{MemFile, TreeMem};
 
 /// `java/lang/Object` with its constructor.
@@ -17,7 +18,8 @@ pub const OBJECT: &str = "
     end
 ";
 
-fn classes_of(alloc: Global, listing: &str) -> Result<Items<ClassInfo>, Fail> {
+/// The classes that a listing says.
+pub fn classes_of(alloc: Global, listing: &str) -> Result<Items<ClassInfo>, Fail> {
     if listing.len() > 1_000_000 {
         return Ok(Items::new(alloc));
     }

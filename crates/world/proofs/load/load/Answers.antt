@@ -1,28 +1,34 @@
-use Rattle.std.proofs.Common.{◌∙◌}
-use Rattle.std.proofs.lemmas.Result.{err_from_is_err_and}
-use Rattle.wf_run.proofs.MadeLaws.{of_more, more_result}
-use Rattle.world.proofs.MadeLaws.{walk_of_run, classes_of_run, roots_of_run}
+use Rattle.std.proofs.Common.{◌≡◌, ℕ, true, false, List, refl, sym, ap, inl, rules}
+use Rattle.wf_runs.proofs.RunLaws.{here, turns, then, done, answered, no_memory, hands_on}
+use Rattle.world.specs.Load.{load_run, with_paths, with_classes}
+use Rattle.wf_first.specs.Roots.{has_object}
+use Rattle.world.proofs.LoadLaws.{no_object, object_is_there}
 use Rattle.world.proofs.load.load.Goals as goal
 
-pub returns-in_err-paths-clause-made : goal.returns-in_err-paths-clause-made
-returns-in_err-paths-clause-made g c = λ files told.
-    let p = err_from_is_err_and c.from_residual.result c.from_residual.ensures.1 in
-    let command = c.args.command.now in
-    rw (p.1, p.2) (of_more _ _ _ c.in_err-paths.field-0.0 (c.in_err-paths.ensures.made files told) (walk_of_run files command.roots command.dir))
+pub returns-in_err-dir : goal.returns-in_err-dir
+returns-in_err-dir g c = no_memory _ c.from_residual.ensures.1 (here _ _)
 
-pub returns-in_err-classes-clause-made : goal.returns-in_err-classes-clause-made
-returns-in_err-classes-clause-made g c = λ files told.
-    let r = c.from_residual-in_err-classes in
-    let p = err_from_is_err_and r.result r.ensures.1 in
-    let command = c.args.command.now in
-    let paths = c.in_ok-paths.paths in
-    let within = classes_of_run files command.roots command.dir paths (c.in_ok-paths.ensures.noted files told) in
-    rw (p.1, p.2) (of_more _ _ _ c.in_err-classes.field-0.0 (c.in_err-classes.ensures.made files (c.in_ok-paths.ensures.same ∙ told)) within)
+pub returns-in_err-paths : goal.returns-in_err-paths
+returns-in_err-paths g c =
+    let start = ap (λ (d : List ℕ). load_run c.args.roots.now d) (sym c.in_ok-dir.ensures) in
+    hands_on (with_paths c.args.roots.now c.in_ok-dir.dir) _ c.from_residual-in_err-paths.ensures.1 (turns start (here _ _)) c.in_err-paths.ensures
 
-pub returns-clause-made : goal.returns-clause-made
-returns-clause-made g c = λ files told.
-    let command = c.args.command.now in
-    let still = c.in_ok-paths.ensures.same ∙ told in
-    let read = c.in_ok-classes.ensures.classes files still in
-    more_result _ _ _ c.read_roots.result c.read_roots.ensures.made
-    (roots_of_run files command.roots command.dir c.in_ok-paths.paths c.in_ok-classes.classes (c.in_ok-paths.ensures.noted files told) read)
+pub returns-in_err-classes : goal.returns-in_err-classes
+returns-in_err-classes g c =
+    let start = ap (λ (d : List ℕ). load_run c.args.roots.now d) (sym c.in_ok-dir.ensures) in
+    hands_on (with_classes c.args.roots.now) _ c.from_residual-in_err-classes.ensures.1
+    (then (with_paths c.args.roots.now c.in_ok-dir.dir) (turns start (here _ _)) c.in_ok-paths.ensures) c.in_err-classes.ensures
+
+pub returns-then-not-has_object : goal.returns-then-not-has_object
+returns-then-not-has_object g c =
+    let start = ap (λ (d : List ℕ). load_run c.args.roots.now d) (sym c.in_ok-dir.ensures) in
+    let none : has_object c.in_ok-classes.classes ≡ false = search rules in
+    answered (turns (no_object c.args.roots.now c.in_ok-classes.classes none)
+    (then (with_classes c.args.roots.now) (then (with_paths c.args.roots.now c.in_ok-dir.dir) (turns start (here _ _)) c.in_ok-paths.ensures) c.in_ok-classes.ensures)) (inl refl)
+
+pub returns : goal.returns
+returns g c =
+    let start = ap (λ (d : List ℕ). load_run c.args.roots.now d) (sym c.in_ok-dir.ensures) in
+    let there : has_object c.in_ok-classes.classes ≡ true = search rules in
+    done (turns (object_is_there c.args.roots.now c.in_ok-classes.classes there)
+    (then (with_classes c.args.roots.now) (then (with_paths c.args.roots.now c.in_ok-dir.dir) (turns start (here _ _)) c.in_ok-paths.ensures) c.in_ok-classes.ensures)) c.read_roots.ensures

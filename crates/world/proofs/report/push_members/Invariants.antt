@@ -1,8 +1,0 @@
-use Rattle.std.proofs.Common.{◌≡◌, ◌++◌, take}
-use Rattle.std.specs.List.{flat_map}
-use Rattle.wf_base.specs.NameForm.{member_text}
-use Rattle.wf_base.specs.Report.{line}
-use Rattle.world.proofs.report.push_members.Given as goal
-
-abbrev pub invariant-loop-member : goal.invariant-loop-member
-invariant-loop-member l = l.out ≡ l.fn.out ++ flat_map (λ m. line (member_text m)) (take l.member-index l.members)

@@ -1,8 +1,0 @@
-use Rattle.std.proofs.Common.{◌≡◌, ◌++◌, take}
-use Rattle.std.specs.List.{flat_map}
-use Rattle.wf_base.specs.NameForm.{escaped}
-use Rattle.wf_base.specs.Report.{line}
-use Rattle.world.proofs.report.push_types.Given as goal
-
-abbrev pub invariant-loop-name : goal.invariant-loop-name
-invariant-loop-name l = l.out ≡ l.fn.out ++ flat_map (λ t. line (escaped t)) (take l.name-index l.types)
