@@ -12,11 +12,11 @@ pub loop-class-preserved : goal.loop-class-preserved
 loop-class-preserved c = λ i k lt there named. elim (cases_lt i c.loop-class.class-index) [
   | inl l ↦ c.loop-class.invariant i k l there named
   | inr h ↦
-    (let here : slice_get c.args.classes.now c.loop-class.class-index ≡ Some k = subst (λ (j : ℕ). slice_get c.args.classes.now j ≡ Some k) (omega (arith, lt, h)) there in
-    let same : c.class-item.result ≡ k = c.class-item.is ∙ get_or_from_slice_get c.args.classes.now c.loop-class.class-index k c.class-item.result here in
-    let equal : c.as_slice.result.now ≡ c.args.name.now = c.as_slice.ensures ∙ ap (λ (d : ClassInfo). d.name) same ∙ named in
-    let yes : bytes_eq c.as_slice.result.now c.args.name.now ≡ true = (bytes_eq-Decides c.as_slice.result.now c.args.name.now).1 equal in
-    absurd (true≢false (sym yes ∙ sym c.if-eq.ensures)))
+      (let here : slice_get c.args.classes.now c.loop-class.class-index ≡ Some k = subst (λ (j : ℕ). slice_get c.args.classes.now j ≡ Some k) (omega (arith, lt, h)) there in
+      let same : c.class-item.result ≡ k = c.class-item.is ∙ get_or_from_slice_get c.args.classes.now c.loop-class.class-index k c.class-item.result here in
+      let equal : c.as_slice.result.now ≡ c.args.name.now = c.as_slice.ensures ∙ ap (λ (d : ClassInfo). d.name) same ∙ named in
+      let yes : bytes_eq c.as_slice.result.now c.args.name.now ≡ true = (bytes_eq-Decides c.as_slice.result.now c.args.name.now).1 equal in
+      absurd (true≢false (sym yes ∙ sym c.if-eq.ensures)))
 ]
 
 pub returns : goal.returns
