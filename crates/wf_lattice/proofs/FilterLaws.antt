@@ -1,10 +1,10 @@
 -- Meanings and filters grow.
-use Rattle.std.proofs.Common.{◌≡◌, ℕ, zero, suc, Bool, true, false, not, if◌then◌else◌, ◌&&◌, ◌⊎◌, inl, inr, nat_lt, bit_and, pos, refl, sym, ◌∙◌, arith, ltb-true, lt-ltb}
+use Rattle.std.proofs.Common.{◌≡◌, ℕ, List, length, ◌||◌, subst, zero, suc, Bool, true, false, not, if◌then◌else◌, ◌&&◌, ◌⊎◌, inl, inr, nat_lt, bit_and, pos, refl, sym, ◌∙◌, arith, ltb-true, lt-ltb}
 use Rattle.std.proofs.lemmas.Bool.{or_cases, or_left, or_right, or_parts, and_parts, and_from, not-true, not_from_false, false_from_ne_true, true≢false}
 use Rattle.wf_lattice.specs.declared.kind.NodeKind.TheVariants.{Refs}
 use Rattle.wf_lattice.specs.declared.view.Nulls.{Nulls}
 use Rattle.wf_lattice.specs.declared.view.Nulls.TheVariants.{Keep, Drop, Only}
-use Rattle.wf_lattice.specs.Words.{IsIn, IsWithin, has_bit, is_empty, counted, types_of, flags_of, both, without, nothing}
+use Rattle.wf_lattice.specs.Words.{IsIn, IsWithin, JoinsRow, has_bit, is_empty, counted, types_of, flags_of, both, either, without, nothing}
 use Rattle.wf_lattice.specs.Order.{is_saturated, Receives}
 use Rattle.wf_lattice.specs.Meaning.{means_null, types_if, meant_types}
 use Rattle.wf_lattice.specs.Filters.{set_words, masked_types, filtered, no_null, only_null, equal_refs, unequal_types, unequal_refs, all_under, some_under, tested_word, null_word}
@@ -12,6 +12,7 @@ use Rattle.wf_lattice.specs.Ints.{constant_word}
 use Rattle.wf_lattice.proofs.BitLaws.{in_itself, or_grows, and_grows, and_in_left, and_in_right, in_through}
 use Rattle.wf_lattice.proofs.RowLaws.{within_itself, either_grows, both_grows, nothing_within, types_grow, counted_grows, bit_grows, nonempty_grows, empty_falls}
 use Rattle.wf_lattice.proofs.OrderLaws.{saturated_grows}
+use Rattle.wf_lattice.proofs.JoinLaws.{joins_both}
 
 -- a value that rises is saturated where it was
 pub saturated_rises : (most n : ℕ) (v u : ℕ → ℕ) → Receives most n Refs v u → is_saturated most n v ≡ true → is_saturated most n u ≡ true
@@ -165,3 +166,26 @@ null_word_grows most n v u r = go (means_null most n v) (means_null most n u) (n
     go true true up = in_itself (constant_word (pos 0))
     go true false up = absurd (true≢false (sym (up refl)))
     go false t up = refl
+
+-- how a saturated value is filtered: all types that are made, in the mask
+pub saturated_filtered : (most n : ℕ) (v inst mask : ℕ → ℕ) (keep over : Bool) (old mid new : List ℕ) → is_saturated most n v ≡ true → length old ≡ length mid
+    → JoinsRow (both (types_of inst) mask) old mid → over ≡ nat_lt most (counted n (both (types_of inst) mask)) → JoinsRow (flags_of over keep) mid new
+    → JoinsRow (set_words most n (masked_types most n v inst mask) (keep && means_null most n v)) old new
+saturated_filtered most n v inst mask keep over old mid new full len j e q =
+    subst (λ (s : Bool). JoinsRow (set_words most n (both (types_if s v inst) mask) (keep && (s || has_bit v 1))) old new) (sym full)
+    (subst (λ (null : Bool). JoinsRow (set_words most n (both (types_of inst) mask) null) old new) (kept keep)
+    (subst (λ (s : Bool). JoinsRow (either (both (types_of inst) mask) (flags_of s keep)) old new) e
+    (joins_both (both (types_of inst) mask) (flags_of over keep) old mid new len j q)))
+  where
+    kept : (b : Bool) → b ≡ (b && true)
+    kept true = refl
+    kept false = refl
+
+-- how a set is filtered: a part of it has no more types than the threshold
+pub set_filtered : (most n : ℕ) (v inst mask : ℕ → ℕ) (keep : Bool) (old mid new : List ℕ) → is_saturated most n v ≡ false → length old ≡ length mid
+    → JoinsRow (both (types_if false v inst) mask) old mid → JoinsRow (flags_of false (keep && has_bit v 1)) mid new
+    → JoinsRow (set_words most n (masked_types most n v inst mask) (keep && means_null most n v)) old new
+set_filtered most n v inst mask keep old mid new few len j q =
+    subst (λ (s : Bool). JoinsRow (set_words most n (both (types_if s v inst) mask) (keep && (s || has_bit v 1))) old new) (sym few)
+    (subst (λ (s : Bool). JoinsRow (either (both (types_if false v inst) mask) (flags_of s (keep && has_bit v 1))) old new) (sym (part_is_few most n v inst mask few))
+    (joins_both (both (types_if false v inst) mask) (flags_of false (keep && has_bit v 1)) old mid new len j q))

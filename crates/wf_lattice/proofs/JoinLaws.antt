@@ -4,12 +4,12 @@ use Rattle.std.specs.Int.{from_bool}
 use Rattle.std.proofs.lemmas.Nat.Bits.{bit_at_or, same_from_bits}
 use Rattle.std.proofs.lemmas.Nat.{ones-le}
 use Rattle.wf_lattice.specs.Filters.{set_words}
-use Rattle.wf_lattice.specs.Words.{JoinsRow, JoinsBetween, AreZero, either, both, types_of, flags_of, counted, nothing}
+use Rattle.wf_lattice.specs.Words.{IsIn, JoinsRow, JoinsBetween, JoinsSome, AreZero, either, both, types_of, flags_of, counted, nothing}
 use Rattle.std.specs.Int.Bits.{or_zero_r, and_zero_l}
 use Rattle.std.proofs.lemmas.Bool.{cases_lt}
 use Rattle.wf_lattice.specs.Meaning.{types_if}
-use Rattle.wf_lattice.proofs.BitLaws.{or_zero}
-use Rattle.wf_lattice.proofs.RowLaws.{types_at}
+use Rattle.wf_lattice.proofs.BitLaws.{or_zero, and_grows, and_in_right, in_itself}
+use Rattle.wf_lattice.proofs.RowLaws.{types_at, types_grow}
 
 pub or_assoc : (a b c : ℕ) → bit_or (bit_or a b) c ≡ bit_or a (bit_or b c)
 or_assoc a b c = same_from_bits (bit_or (bit_or a b) c) (bit_or a (bit_or b c))
@@ -85,3 +85,21 @@ zeros_joined value inst mask k old new le z j = record {
 -- all words are joined
 pub all_joined : (f : ℕ → ℕ) (n : ℕ) (old new : List ℕ) → length old ≡ n → JoinsBetween f 0 n old new → JoinsRow f old new
 all_joined f n old new e j = record { each = λ k lt. j.below k (omega arith) (omega (arith, lt, e)) }
+
+-- what of a set is made and in the mask is some of what is made and in the mask
+pub part_joined : (value inst mask : ℕ → ℕ) (n : ℕ) (old new : List ℕ) → JoinsBetween (both (types_if false value inst) mask) 0 n old new → JoinsSome (both (types_of inst) mask) old new
+part_joined value inst mask n old new j = record { each = λ k lt. each k (cases_lt k n) }
+  where
+    part : (k : ℕ) → IsIn (both (types_if false value inst) mask k) (both (types_of inst) mask k)
+    part k = and_grows (types_if false value inst k) (mask k) (types_of inst k) (mask k)
+        ((types_grow (λ i. bit_and (value i) (inst i)) inst (record { each = λ i. and_in_right (value i) (inst i) })).each k) (in_itself (mask k))
+
+    each : (k : ℕ) → ((k < n) ⊎ (n ≤ k)) → bit_or (slice_index new k) (both (types_of inst) mask k) ≡ bit_or (slice_index old k) (both (types_of inst) mask k)
+    each k (inl l) = ap (λ (w : ℕ). bit_or w (both (types_of inst) mask k)) (j.below k (omega arith) l)
+        ∙ or_assoc (slice_index old k) (both (types_if false value inst) mask k) (both (types_of inst) mask k)
+        ∙ ap (λ (w : ℕ). bit_or (slice_index old k) w) (part k)
+    each k (inr h) = ap (λ (w : ℕ). bit_or w (both (types_of inst) mask k)) (j.from k h)
+
+-- the whole row, after some of it
+pub some_then_all : (f : ℕ → ℕ) (old mid new : List ℕ) → length old ≡ length mid → JoinsSome f old mid → JoinsRow f mid new → JoinsRow f old new
+some_then_all f old mid new len s j = record { each = λ k lt. j.each k (omega (arith, lt, len)) ∙ s.each k lt }

@@ -77,6 +77,10 @@ pub record JoinsBetween (f : ℕ → ℕ) (first n : ℕ) (old new : List ℕ) :
   pub below : (k : ℕ) → first ≤ k → k < n → slice_index new k ≡ bit_or (slice_index old k) (f k)
   pub from : (k : ℕ) → n ≤ k → slice_index new k ≡ slice_index old k
 
+-- some bits of a row are joined and no others: with the whole row joined the two lists are the same
+pub record JoinsSome (f : ℕ → ℕ) (old new : List ℕ) : Type 0 where
+  pub each : (k : ℕ) → k < length old → bit_or (slice_index new k) (f k) ≡ bit_or (slice_index old k) (f k)
+
 -- the eight words from a place on are 0
 pub record AreZero (v : ℕ → ℕ) (k : ℕ) : Type 0 where
   pub each : (i : ℕ) → k ≤ i → i < k + 8 → v i ≡ 0

@@ -1,7 +1,7 @@
 ghost use Rattle.std.specs.Prelude.{◌≡◌, ◌+◌, ◌*◌, ◌<◌, length};
 ghost use Rattle.wf_lattice.specs.Words.{words_of, is_empty};
 ghost use Rattle.wf_lattice.specs.Order.{is_saturated};
-ghost use Rattle.wf_lattice.specs.Meaning.{means};
+ghost use Rattle.wf_lattice.specs.Meaning.{means, means_null};
 
 use crate::words;
 use wf_base::TypeId;
@@ -48,12 +48,19 @@ impl<'a> RefView<'a> {
         words::bit(self.words, 0) || words::has_more_types(self.words, self.threshold)
     }
 
+    /// Whether its meaning has null.
+    pub fn means_null(self) -> bool
+        ensures { result ≡ means_null self.entry.threshold (length self.entry.words.now) (words_of self.entry.words.now) }
+    {
+        self.is_saturated() || words::bit(self.words, 1)
+    }
+
     /// Whether its meaning has the type, or null for type 0, where `inst` has the types that are made.
     pub fn holds(self, t: TypeId, inst: RefView) -> bool
         ensures { result ≡ means self.entry.threshold (length self.entry.words.now) (words_of self.entry.words.now) (words_of inst.entry.words.now) t.0 }
     {
         if t.0 == 0 {
-            return self.is_saturated() || words::bit(self.words, 1);
+            return self.means_null();
         }
         let place = t.0 as usize + 1;
         (self.is_saturated() || words::bit(self.words, place)) && words::bit(inst.words, place)

@@ -1,6 +1,6 @@
 use Rattle.std.proofs.Common.{arith}
 use Rattle.wf_lattice.specs.Words.{words_of}
-use Rattle.wf_lattice.proofs.RowLaws.{eight_more, eight_zeros}
+use Rattle.wf_lattice.proofs.RowLaws.{eight_more}
 use Rattle.wf_lattice.proofs.words.ones_of_eight.Goals as goal
 
 pub returns : goal.returns
@@ -20,7 +20,3 @@ returns c =
       );
       few = omega (arith, c.ones.ensures.few, c.ones-2.ensures.few, c.ones-3.ensures.few, c.ones-4.ensures.few, c.ones-5.ensures.few, c.ones-6.ensures.few, c.ones-7.ensures.few, c.ones-8.ensures.few);
     }
-
-pub returns-then-are_zero-clause-counts : goal.returns-then-are_zero-clause-counts
-returns-then-are_zero-clause-counts c =
-    omega (arith, eight_zeros c.args.k (words_of c.args.words.now) c.requires.behind_flags (c.are_zero.ensures c.if-are_zero.true))
