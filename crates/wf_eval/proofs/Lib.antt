@@ -9,3 +9,5 @@ pub mod AnswerLaws
 pub mod PlannedLaws
 pub mod RaiseLaws
 pub mod EndLaws
+pub mod CountLaws
+pub mod TwoIntsLaws

@@ -3,9 +3,9 @@ use Rattle.std.proofs.Common.{◌≡◌, ◌≢◌, ℕ, zero, suc, ◌+◌, ◌
 use Rattle.std.proofs.lemmas.Bool.{cases_eq, cases_lt, cases_order, true≢false, cond-true, cond-false}
 use Rattle.std.proofs.lemmas.List.{get_or_past}
 use Rattle.wf_base.specs.declared.ids.NodeId.{NodeId}
-use Rattle.wf_lattice.specs.Words.{IsIn, IsWithin, words_of}
+use Rattle.wf_lattice.specs.Words.{IsIn, IsWithin, words_of, counted}
 use Rattle.wf_lattice.proofs.BitLaws.{in_itself, in_through, in_left, in_right, or_in, or_grows}
-use Rattle.wf_lattice.proofs.RowLaws.{within_itself, within_through}
+use Rattle.wf_lattice.proofs.RowLaws.{within_itself, within_through, counted_grows}
 use Rattle.wf_system.specs.declared.node_shape.NodeShape.{NodeShape}
 use Rattle.wf_system.specs.declared.side.Side.{Side}
 use Rattle.wf_system.specs.declared.inequality.Inequality.{Inequality}
@@ -22,14 +22,7 @@ use Rattle.wf_eval.specs.Plans.{planned}
 use Rattle.wf_eval.specs.Raising.{Raises, JoinsWord}
 use Rattle.wf_eval.proofs.EndLaws.{given_ends}
 use Rattle.wf_eval.proofs.PlannedLaws.{planned_grows}
-
-pub joins_word : (words : List ℕ) (place bits w : ℕ) → place < length words → w ≡ bit_or (slice_index words place) bits → JoinsWord place bits words (slice_set words place w) true
-joins_word words place bits w lt e = record {
-  same = length-set words place w;
-  word = get_or-set_same words place w 0 lt ∙ e;
-  others = λ i other. get_or-set_other words place i w 0 other;
-  still = λ h. absurd (true≢false h);
-}
+use Rattle.wf_eval.proofs.CountLaws.{counted_rises}
 
 -- the words of the target below k are raised by the plan
 pub record RaisedTo (nodes : List NodeShape) (most : ℕ) (side : Side) (q : Inequality NodeId) (p : Plan) (at : NodeShape) (k : ℕ) (old now : List ℕ) (changed : Bool) : Type 0 where
@@ -40,6 +33,7 @@ pub record RaisedTo (nodes : List NodeShape) (most : ℕ) (side : Side) (q : Ine
   pub later : (i : ℕ) → at.first_word + k ≤ i → slice_index now i ≡ slice_index old i
   pub others : (i : ℕ) → i < at.first_word → slice_index now i ≡ slice_index old i
   pub still : changed ≡ false → now ≡ old
+  pub more : changed ≡ true → counted (length old) (words_of old) < counted (length old) (words_of now)
 
 pub raised_none : (nodes : List NodeShape) (most : ℕ) (side : Side) (q : Inequality NodeId) (p : Plan) (at : NodeShape) (old : List ℕ) → RaisedTo nodes most side q p at 0 old old false
 raised_none nodes most side q p at old = record {
@@ -50,6 +44,7 @@ raised_none nodes most side q p at old = record {
   later = λ i le. refl;
   others = λ i lt. refl;
   still = λ e. refl;
+  more = λ e. absurd (true≢false (sym e));
 }
 
 or_false : (a b : Bool) → (a || b) ≡ false → (a ≡ false) × (b ≡ false)
@@ -132,9 +127,9 @@ below_step nodes most side q p at k w old now new y o inside grown is j start me
         subst (λ (m : NodeId). AtLeast (tables_of nodes most side) m (rows_of nodes (words_of new) m) (y m)) e (at_target (here q.target) given_below)
     go n (inr apart) h = at_other n apart h
 
-pub raised_next : (nodes : List NodeShape) (most : ℕ) (side : Side) (q : Inequality NodeId) (p : Plan) (at : NodeShape) (k w : ℕ) (old now new : List ℕ) (changed rose : Bool) → Opened nodes most side q p at old → k < at.words → RaisedTo nodes most side q p at k old now changed
+pub raised_next : (nodes : List NodeShape) (most : ℕ) (side : Side) (q : Inequality NodeId) (p : Plan) (at : NodeShape) (k w : ℕ) (old now new : List ℕ) (changed rose : Bool) → Opened nodes most side q p at old → k < at.words → at.first_word + at.words ≤ length old → RaisedTo nodes most side q p at k old now changed
     → w ≡ planned nodes side p (words_of now) k → JoinsWord (at.first_word + k) w now new rose → RaisedTo nodes most side q p at (k + 1) old new (changed || rose)
-raised_next nodes most side q p at k w old now new changed rose o inside r is j = record {
+raised_next nodes most side q p at k w old now new changed rose o inside room r is j = record {
   same = j.same ∙ r.same;
   grown = within_through (words_of old) (words_of now) (words_of new) r.grown up;
   joined = λ i lt. joined i lt (cases_eq i k);
@@ -142,6 +137,7 @@ raised_next nodes most side q p at k w old now new changed rose o inside r is j 
   later = λ i le. j.others i (λ e. absurd (omega (arith, e, le))) ∙ r.later i (omega arith);
   others = λ i lt. j.others i (λ e. absurd (omega (arith, e, lt))) ∙ r.others i lt;
   still = λ e. let parts : (changed ≡ false) × (rose ≡ false) = or_false changed rose e in j.still parts.1 ∙ r.still parts.0;
+  more = λ e. more changed rose e r.more j.more;
 }
   where
     up : IsWithin (words_of now) (words_of new)
@@ -150,6 +146,15 @@ raised_next nodes most side q p at k w old now new changed rose o inside r is j 
         go : (i : ℕ) → ((i ≡ at.first_word + k) ⊎ (i ≡ at.first_word + k → ⊥)) → IsIn (slice_index now i) (slice_index new i)
         go i (inl e) = subst (λ (n : ℕ). IsIn (slice_index now n) (slice_index new n)) (sym e) (subst (λ (v : ℕ). IsIn (slice_index now (at.first_word + k)) v) (sym j.word) (in_left (slice_index now (at.first_word + k)) w))
         go i (inr other) = subst (λ (v : ℕ). IsIn (slice_index now i) v) (sym (j.others i other)) (in_itself (slice_index now i))
+
+    more : (b c : Bool) → (b || c) ≡ true → (b ≡ true → counted (length old) (words_of old) < counted (length old) (words_of now)) → (c ≡ true → slice_index now (at.first_word + k) ≢ slice_index new (at.first_word + k))
+        → counted (length old) (words_of old) < counted (length old) (words_of new)
+    more true c e before last = omega (arith, before refl, counted_grows (length old) (words_of now) (words_of new) up)
+    more false c e before last = omega (
+      arith,
+      counted_grows (length old) (words_of old) (words_of now) r.grown,
+      counted_rises (length old) (at.first_word + k) (words_of now) (words_of new) up (omega (arith, room)) (last e),
+    )
 
     joined : (i : ℕ) → i < k + 1 → ((i ≡ k) ⊎ (i ≡ k → ⊥)) → IsIn (planned nodes side p (words_of old) i) (slice_index new (at.first_word + i))
     joined i lt (inl e) = subst (λ (n : ℕ). IsIn (planned nodes side p (words_of old) n) (slice_index new (at.first_word + n))) (sym e)
@@ -172,6 +177,7 @@ raised_all nodes most side q p at k old now changed o le ge r = record {
   below = r.below;
   others = λ i out. go i out;
   still = r.still;
+  more = r.more;
 }
   where
     first : at.first_word ≡ (shape_at nodes q.target.0).first_word
@@ -204,4 +210,5 @@ raised_not nodes most side q old closed = record {
   below = λ y up met. up;
   others = λ i out. refl;
   still = λ e. refl;
+  more = λ e. absurd (true≢false (sym e));
 }

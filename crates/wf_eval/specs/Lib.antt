@@ -4,3 +4,4 @@ pub mod Plans
 pub mod Answers
 pub mod Kept
 pub mod Raising
+pub mod TwoInts

@@ -17,3 +17,6 @@ pub use inequality::eval;
 pub use lookup::Lookup;
 pub use plan::{Mask, Meaning, Plan, Source, TypeSet};
 pub use words::Words;
+
+#[cfg(test)]
+mod tests;

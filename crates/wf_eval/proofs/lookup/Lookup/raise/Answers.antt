@@ -20,7 +20,13 @@ loop-k-preserved c = raised_next c.args.self.now.shape.now c.args.self.now.most 
       holds = sym c.guard_in.ensures ∙ c.if-not-guard_in.false;
       low = c.plan_in-plan.ensures.low;
       high = c.plan_in-plan.ensures.high;
-    }) c.loop-k-test.true c.loop-k.invariant c.word_in-bits.ensures c.join_at-rose.ensures
+    }) c.loop-k-test.true
+    (omega (
+      arith,
+      c.requires.all,
+      inside_at c.args.self.now.shape.now c.args.q.target.0 c.node-at.result c.args.self.now.laid c.node-at.ensures (ltb-true c.args.q.target.0 (length c.args.self.now.shape.now) c.requires.fits.target_there),
+    ))
+    c.loop-k.invariant c.word_in-bits.ensures c.join_at-rose.ensures
 
 pub returns : goal.returns
 returns c = raised_all c.args.self.now.shape.now c.args.self.now.most c.args.self.now.side.now c.args.q c.plan_in-plan.result c.node-at.result c.loop-k.k c.args.words.now c.loop-k.words c.loop-k.changed
