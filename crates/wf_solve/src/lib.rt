@@ -1,0 +1,13 @@
+//! The one-thread solver: from words and a list of nodes to the least solution above the words.
+#![tactic(auto)]
+
+mod solver;
+mod steps;
+mod worklist;
+
+pub use solver::solve;
+pub use steps::Steps;
+pub use worklist::Worklist;
+
+#[cfg(test)]
+mod tests;
