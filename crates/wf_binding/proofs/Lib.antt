@@ -3,6 +3,7 @@ pub mod EffectLines
 pub mod Finding
 pub mod LiteralLines
 pub mod Numbered
+pub mod OnceLists
 pub mod RootLines
 pub mod ShortDescriptors
 pub mod SummaryLines

@@ -1,19 +1,22 @@
 -- What no line is bad of is valid, line by line.
-use Rattle.std.proofs.Common.{◌≡◌, ℕ, List, Option, Some, None, refl, sym, ap, ◌∙◌}
+use Rattle.std.proofs.Common.{◌≡◌, ℕ, Bool, true, false, List, Option, Some, None, refl, sym, ap, ◌∙◌}
 use Rattle.std.specs.Prelude.{slice_get}
+use Rattle.std.proofs.lemmas.Bool.{and_parts}
 use Rattle.wf_descriptor.specs.Descriptors.{SpellsMethod}
 use Rattle.wf_descriptor.specs.declared.descriptor.MethodDesc.{MethodDesc}
+use Rattle.wf_inputs.specs.declared.roots.RootLine.{RootLine}
 use Rattle.wf_inputs.specs.declared.summary.Block.{Block}
 use Rattle.wf_inputs.specs.declared.summary.EffectLine.{EffectLine}
 use Rattle.wf_inputs.specs.declared.summary.Literal.{Literal}
 use Rattle.wf_inputs.specs.declared.summary.Summary.{Summary}
 use Rattle.wf_names.specs.declared.input.InputWhy.{InputWhy}
 use Rattle.wf_names.specs.declared.input.InputWhy.TheVariants as why
+use Rattle.wf_names.specs.declared.root.Root.TheVariants.{Make}
 use Rattle.wf_subtype.specs.Subtypes.{AllTypes}
-use Rattle.wf_binding.specs.Named.{method_of, flags_of_method, argument_kinds}
-use Rattle.wf_binding.specs.Numbering.{SummaryStands}
-use Rattle.wf_binding.specs.Valid.{IsValidEffect, AreValidEffects, IsValidBlock, AreValidBlocks, IsValidLiteral, AreValidLiterals}
-use Rattle.wf_binding.specs.Validity.{HasNoBad, IsBadLine, of_block, of_literal, opening, inside, effect_word, literal_word}
+use Rattle.wf_binding.specs.Named.{method_of, flags_of_method, argument_kinds, is_type, can_be_made}
+use Rattle.wf_binding.specs.Numbering.{SummaryStands, RootsStand}
+use Rattle.wf_binding.specs.Valid.{IsValidEffect, AreValidEffects, IsValidBlock, AreValidBlocks, IsValidLiteral, AreValidLiterals, IsSoundRoot, AreSoundRoots}
+use Rattle.wf_binding.specs.Validity.{HasNoBad, Somewhere, IsBadRootLine, IsBadLine, of_block, of_literal, opening, inside, word_of, has_constructor, can_be_constructed, effect_word, literal_word}
 use Rattle.wf_binding.proofs.BlockLines.{word_absent}
 
 no_word : (o : Option InputWhy) → ((w : InputWhy) → o ≡ Some w → ⊥) → o ≡ None
@@ -52,3 +55,22 @@ valid_literals types s h stands = record {
     stands = stands.literals i l e;
   };
 }
+
+pub sound_roots : (types : AllTypes) (lines : List RootLine) → HasNoBad (Somewhere (IsBadRootLine types.classes lines)) → RootsStand types lines → AreSoundRoots types lines
+sound_roots types lines h stands = record {
+  each = λ i l e. record {
+    sound = λ w bad. h.none l.line w (record { place = i; bad = record { root = l; there = e; at = refl; is = bad } });
+    stands = stands.each i l e;
+  };
+}
+
+right_is : (there right : Bool) → word_of there right ≡ None → right ≡ true
+right_is true true e = refl
+right_is true false e = absurd cc
+right_is false right e = absurd cc
+
+-- a class of which a root makes an object has the constructor
+pub made_sound : (types : AllTypes) (name : List ℕ) → IsSoundRoot types (Make name) → has_constructor types.classes name ≡ true
+made_sound types name h =
+    (and_parts (has_constructor types.classes name) (can_be_made types.classes name)
+    (right_is (is_type types.classes name) (can_be_constructed types.classes name) (no_word _ (λ w is. h.sound w is)))).0

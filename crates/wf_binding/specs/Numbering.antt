@@ -1,14 +1,20 @@
 -- The numbers of what the lines of a summary and of a list of roots name (this project's own rule).
-use Rattle.std.specs.Prelude.{◌≡◌, ℕ, Bool, true, List, length, Option, Some, None, codes, option_map, slice_get}
+use Rattle.std.specs.Prelude.{◌≡◌, ◌≢◌, ℕ, Bool, true, List, length, Option, Some, None, codes, option_map, slice_get}
+use Rattle.std.specs.List.{AllPairs, Contains}
 use Rattle.wf_base.specs.declared.kind.Kind.{Kind}
 use Rattle.wf_base.specs.declared.kind.Kind.TheVariants as kind
+use Rattle.wf_base.specs.declared.ids.ClassId.{ClassId}
 use Rattle.wf_base.specs.declared.ids.FieldId.{FieldId}
 use Rattle.wf_base.specs.declared.ids.MethodId.{MethodId}
 use Rattle.wf_base.specs.declared.ids.TargetId.{TargetId}
 use Rattle.wf_base.specs.declared.ids.TypeId.{TypeId}
+use Rattle.wf_classes.specs.Members.{method_number}
+use Rattle.wf_classes.specs.World.{class_of}
 use Rattle.wf_descriptor.specs.Descriptors.{SpellsMethod}
 use Rattle.wf_descriptor.specs.declared.descriptor.FieldDesc.{FieldDesc}
 use Rattle.wf_descriptor.specs.declared.descriptor.MethodDesc.{MethodDesc}
+use Rattle.wf_inputs.specs.declared.roots.RootLine.{RootLine}
+use Rattle.wf_inputs.specs.declared.roots.Roots.{Roots}
 use Rattle.wf_inputs.specs.declared.summary.Block.{Block}
 use Rattle.wf_inputs.specs.declared.summary.Effect.{Effect}
 use Rattle.wf_inputs.specs.declared.summary.Effect.TheVariants.{ReturnsVoid, Returns, Makes, Writes, Copies}
@@ -19,6 +25,8 @@ use Rattle.wf_inputs.specs.declared.summary.Value.{Value}
 use Rattle.wf_inputs.specs.declared.summary.Value.TheVariants as value
 use Rattle.wf_names.specs.Names.{object_name}
 use Rattle.wf_names.specs.declared.member.MemberName.{MemberName}
+use Rattle.wf_names.specs.declared.root.Root.{Root}
+use Rattle.wf_names.specs.declared.root.Root.TheVariants.{StaticCall, Inst, Make}
 use Rattle.wf_subtype.specs.Subtypes.{AllTypes, IsTargetFound}
 use Rattle.wf_subtype.specs.Universe.{type_of}
 use Rattle.wf_binding.specs.Adding.{is_standing}
@@ -31,6 +39,8 @@ use Rattle.wf_binding.specs.declared.numbers.EffectNumbers.TheVariants as effect
 use Rattle.wf_binding.specs.declared.numbers.BlockNumbers.{BlockNumbers}
 use Rattle.wf_binding.specs.declared.numbers.LiteralNumbers.{LiteralNumbers}
 use Rattle.wf_binding.specs.declared.numbers.SummaryNumbers.{SummaryNumbers}
+use Rattle.wf_binding.specs.declared.numbers.RootNumbers.{RootNumbers}
+use Rattle.wf_binding.specs.declared.numbers.RootNumbers.TheVariants as roots
 
 -- ---- numbers
 
@@ -116,7 +126,59 @@ pub record NumbersSummary (types : AllTypes) (s : Summary) (n : SummaryNumbers) 
   pub blocks : AreNumbered (NumbersBlock types) s.blocks n.blocks
   pub literals : AreNumbered (NumbersLiteral types) s.literals n.literals
 
+-- the number of a static method
+pub record NumbersStart (types : AllTypes) (m : MemberName) (n : RootNumbers) : Type 0 where
+  pub method : MethodId
+  pub is : method_of types.classes m ≡ Some method.0
+  pub same : n ≡ roots.StaticCall method
+
+-- the number of a type
+pub record NumbersInst (types : AllTypes) (name : List ℕ) (n : RootNumbers) : Type 0 where
+  pub type : TypeId
+  pub is : type_of types.names name ≡ Some type.0
+  pub same : n ≡ roots.Inst type
+
+-- those of a class, of its type, and of its constructor without parameters
+pub record NumbersMade (types : AllTypes) (name : List ℕ) (n : RootNumbers) : Type 0 where
+  pub class : ClassId
+  pub of_class : class_of types.classes name ≡ Some class.0
+  pub made : TypeId
+  pub of_type : type_of types.names name ≡ Some made.0
+  pub constructor : MethodId
+  pub of_constructor : method_number types.classes class.0 (codes "<init>") (codes "()V") ≡ Some constructor.0
+  pub same : n ≡ roots.Make class made constructor
+
+-- the numbers of a root
+abbrev pub NumbersRoot : AllTypes → Root → RootNumbers → Type 0
+NumbersRoot types (StaticCall m) n = NumbersStart types m n
+NumbersRoot types (Inst t) n = NumbersInst types t n
+NumbersRoot types (Make c) n = NumbersMade types c n
+
+abbrev pub NumbersRootLine : AllTypes → RootLine → RootNumbers → Type 0
+NumbersRootLine types l n = NumbersRoot types l.root n
+
+-- what was given, each once, in whatever order
+pub record AreEachOnce {X : Type 0} (given once : List X) : Type 0 where
+  pub all : (x : X) → Contains given x → Contains once x
+  pub only : (x : X) → Contains once x → Contains given x
+  pub apart : AllPairs (λ x y. x ≢ y) once
+
+-- the numbers of the roots of a list, each once: a root that is given twice counts once
+pub record NumbersRoots (types : AllTypes) (lines : List RootLine) (ns : List RootNumbers) : Type 0 where
+  pub of_lines : List RootNumbers
+  pub numbered : AreNumbered (NumbersRootLine types) lines of_lines
+  pub once : AreEachOnce of_lines ns
+
 -- ---- conditions
+
+-- the type of which a root has objects stands in the universe
+abbrev pub made_stands : AllTypes → Root → Bool
+made_stands types (StaticCall m) = true
+made_stands types (Inst t) = is_standing types t
+made_stands types (Make c) = is_standing types c
+
+pub record RootsStand (types : AllTypes) (lines : List RootLine) : Type 0 where
+  pub each : (i : ℕ) (l : RootLine) → slice_get lines i ≡ Some l → made_stands types l.root ≡ true
 
 -- the type that a value makes stands in the universe
 abbrev pub value_stands : AllTypes → Value → Bool

@@ -4,15 +4,18 @@ use Rattle.wf_base.specs.declared.kind.Kind.{Kind}
 use Rattle.wf_descriptor.specs.Descriptors.{SpellsMethod}
 use Rattle.wf_descriptor.specs.declared.descriptor.FieldDesc.{FieldDesc}
 use Rattle.wf_descriptor.specs.declared.descriptor.MethodDesc.{MethodDesc}
+use Rattle.wf_inputs.specs.declared.roots.RootLine.{RootLine}
 use Rattle.wf_inputs.specs.declared.summary.Block.{Block}
 use Rattle.wf_inputs.specs.declared.summary.Effect.{Effect}
 use Rattle.wf_inputs.specs.declared.summary.EffectLine.{EffectLine}
 use Rattle.wf_inputs.specs.declared.summary.Literal.{Literal}
 use Rattle.wf_inputs.specs.declared.summary.Value.{Value}
+use Rattle.wf_names.specs.declared.input.InputWhy.{InputWhy}
+use Rattle.wf_names.specs.declared.root.Root.{Root}
 use Rattle.wf_subtype.specs.Subtypes.{AllTypes}
 use Rattle.wf_binding.specs.Named.{method_of, flags_of_method}
-use Rattle.wf_binding.specs.Numbering.{value_stands, effect_stands}
-use Rattle.wf_binding.specs.Validity.{is_followed, value_there, effect_word, literal_word}
+use Rattle.wf_binding.specs.Numbering.{value_stands, effect_stands, made_stands}
+use Rattle.wf_binding.specs.Validity.{IsBadRoot, is_followed, value_there, effect_word, literal_word}
 
 -- a value for a place of this kind
 pub record IsValidValue (types : AllTypes) (k : Kind) (v : Value) : Type 0 where
@@ -43,3 +46,10 @@ pub record IsValidLiteral (types : AllTypes) (l : Literal) : Type 0 where
 
 pub record AreValidLiterals (types : AllTypes) (literals : List Literal) : Type 0 where
   pub each : (i : ℕ) (l : Literal) → slice_get literals i ≡ Some l → IsValidLiteral types l
+
+pub record IsSoundRoot (types : AllTypes) (root : Root) : Type 0 where
+  pub sound : (w : InputWhy) → IsBadRoot types.classes root w → ⊥
+  pub stands : made_stands types root ≡ true
+
+pub record AreSoundRoots (types : AllTypes) (lines : List RootLine) : Type 0 where
+  pub each : (i : ℕ) (l : RootLine) → slice_get lines i ≡ Some l → IsSoundRoot types l.root

@@ -6,18 +6,19 @@ ghost use Rattle.wf_subtype.specs.Subtypes.{IsTargetFound};
 ghost use Rattle.wf_subtype.specs.Universe.{type_of};
 ghost use Rattle.wf_binding.specs.Adding.{is_standing};
 ghost use Rattle.wf_binding.specs.Named.{is_type, field_of};
-ghost use Rattle.wf_binding.specs.Numbering.{AreNumbered, NumbersAny, NumbersValue, NumbersReturn, NumbersWrite, NumbersEffect, NumbersLine, NumbersBlock, NumbersLiteral};
-ghost use Rattle.wf_binding.specs.Valid.{IsValidValue, IsValidEffect, AreValidEffects, IsValidBlock, AreValidBlocks, IsValidLiteral, AreValidLiterals};
-ghost use Rattle.wf_binding.specs.Validity.{is_followed};
+ghost use Rattle.wf_binding.specs.Numbering.{AreNumbered, NumbersAny, NumbersValue, NumbersReturn, NumbersWrite, NumbersEffect, NumbersLine, NumbersBlock, NumbersLiteral, NumbersStart, NumbersMade, NumbersRoot, NumbersRootLine, AreEachOnce};
+ghost use Rattle.wf_binding.specs.Valid.{IsValidValue, IsValidEffect, AreValidEffects, IsValidBlock, AreValidBlocks, IsValidLiteral, AreValidLiterals, IsSoundRoot, AreSoundRoots};
+ghost use Rattle.wf_binding.specs.Validity.{is_followed, has_constructor};
 
 use crate::described::descriptor_of;
 use crate::named::{field_kind, field_of, method_of};
-use crate::numbers::{BlockNumbers, EffectNumbers, LiteralNumbers, ValueNumbers};
+use crate::numbers::{BlockNumbers, EffectNumbers, LiteralNumbers, RootNumbers, ValueNumbers};
 use std::alloc::{AllocError, Global};
-use wf_base::{FieldId, Items, Kind, TargetId, TypeId};
+use wf_base::{Items, Kind, TargetId, TypeId};
+use wf_classes::own_method;
 use wf_descriptor::FieldDesc;
-use wf_inputs::{Block, Effect, EffectLine, Literal, Value};
-use wf_names::MemberName;
+use wf_inputs::{Block, Effect, EffectLine, Literal, RootLine, Value};
+use wf_names::{MemberName, Root};
 use wf_subtype::Types;
 
 /// The type of a name, which stands in the universe.
@@ -192,5 +193,74 @@ pub fn literals_numbers(
     for literal in literals {
         numbers.push(literal_numbers(types, literal))?;
     }
+    Ok(Items::from_vec(numbers))
+}
+
+fn start_numbers(types: &Types, method: &MemberName) -> RootNumbers
+    requires { IsSoundRoot types.now (Root.StaticCall method.now) }
+    ensures { NumbersStart types.now method.now result }
+{
+    match method_of(types.classes(), method) {
+        Some(own) => RootNumbers::StaticCall(own.id),
+        None => unreachable!(),
+    }
+}
+
+fn made_numbers(types: &Types, name: &[u8]) -> RootNumbers
+    requires constructor { has_constructor types.now.classes name.now ≡ true }
+    requires stands { is_standing types.now name.now ≡ true }
+    ensures { NumbersMade types.now name.now result }
+{
+    let Some(class) = types.classes().find(name) else {
+        unreachable!()
+    };
+    match own_method(
+        types.classes(),
+        class,
+        b"<init>".as_slice(),
+        b"()V".as_slice(),
+    ) {
+        Some(own) => RootNumbers::Make {
+            class,
+            made: type_number(types, name),
+            constructor: own.id,
+        },
+        None => unreachable!(),
+    }
+}
+
+fn root_numbers(types: &Types, root: &Root) -> RootNumbers
+    requires { IsSoundRoot types.now root.now }
+    ensures { NumbersRoot types.now root.now result }
+{
+    match root {
+        Root::StaticCall(method) => start_numbers(types, method),
+        Root::Inst(name) => RootNumbers::Inst(type_number(types, name.as_slice())),
+        Root::Make(name) => made_numbers(types, name.as_slice()),
+    }
+}
+
+/// The numbers of roots that are sound, a line at a time.
+pub fn roots_numbers(
+    alloc: Global,
+    types: &Types,
+    lines: &[RootLine],
+) -> Result<Vec<RootNumbers>, AllocError>
+    requires { AreSoundRoots types.now lines.now }
+    ensures { IfOk result (λ numbers. AreNumbered (NumbersRootLine types.now) lines.now numbers.items) }
+{
+    let mut numbers = Vec::new(alloc);
+    for line in lines {
+        numbers.push(root_numbers(types, &line.root))?;
+    }
+    Ok(numbers)
+}
+
+/// The same numbers, each once.
+pub fn each_once(mut numbers: Vec<RootNumbers>) -> Result<Items<RootNumbers>, AllocError>
+    ensures { IfOk result (AreEachOnce numbers.items) }
+{
+    numbers.sort()?;
+    numbers.dedup();
     Ok(Items::from_vec(numbers))
 }

@@ -52,7 +52,7 @@ pub struct LiteralNumbers {
 }
 
 /// A root.
-#[derive(Clone, Copy, Debug)]
+#[derive(Clone, Copy, Debug, PartialEq, Eq, PartialOrd, Ord)]
 pub enum RootNumbers {
     StaticCall(MethodId),
     Inst(TypeId),

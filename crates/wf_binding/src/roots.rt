@@ -3,12 +3,16 @@
 ghost use Rattle.std.specs.Prelude.{◌≡◌, ◌↔◌, IfOk, OnOk, OnErr, IfErr, IsTrue};
 ghost use Rattle.wf_binding.specs.Adding.{root_stands, IsValidRoot, IsListed, Adds};
 ghost use Rattle.wf_binding.specs.First.{IsFirst};
+ghost use Rattle.wf_binding.specs.Numbering.{NumbersRoots, RootsStand};
 ghost use Rattle.wf_binding.specs.Validity.{Somewhere, IsBadRootLine, HasNoBad, Tells};
 
 use crate::first::{BadLine, at_line, earlier_of};
+use crate::numbering::{each_once, roots_numbers};
+use crate::numbers::RootNumbers;
 use crate::starts::root_word;
 use std::alloc::{AllocError, Global};
 use std::marker::Model;
+use wf_base::Items;
 use wf_classes::Classes;
 use wf_inputs::{InputFault, RootLine, Roots};
 use wf_names::Root;
@@ -45,6 +49,16 @@ impl BoundRoots {
         &self.roots
     }
 
+    /// The numbers of what its lines name, each root once, for types in whose classes no line is bad and that have
+    /// each type of which a root has objects. They are sorted, so a list of n lines takes n log n steps.
+    pub fn numbers(&self, alloc: Global, types: &Types) -> Result<Items<RootNumbers>, AllocError>
+        requires valid { HasNoBad (Somewhere (IsBadRootLine types.now.classes self.now.lines)) }
+        requires stands { RootsStand types.now self.now.lines }
+        ensures { IfOk result (NumbersRoots types.now self.now.lines) }
+    {
+        lines_numbers(alloc, types, self.get())
+    }
+
     /// Adds a root that is asked for, with line 0, unless the list has it. The list is gone through each time. Own rule.
     pub fn add(&mut self, alloc: Global, types: &Types, root: Root) -> Result<Added, AllocError>
         ensures ok { IfOk result (Adds types.now root self.old self.new) }
@@ -61,6 +75,20 @@ impl BoundRoots {
             Err(_) => Err(AllocError),
         }
     }
+}
+
+fn lines_numbers(
+    alloc: Global,
+    types: &Types,
+    roots: &Roots,
+) -> Result<Items<RootNumbers>, AllocError>
+    requires valid { HasNoBad (Somewhere (IsBadRootLine types.now.classes roots.now.lines)) }
+    requires stands { RootsStand types.now roots.now.lines }
+    ensures { IfOk result (NumbersRoots types.now roots.now.lines) }
+{
+    let of_lines = roots_numbers(alloc, types, roots.lines.as_slice())?;
+    let once = each_once(of_lines)?;
+    Ok(once)
 }
 
 fn root_stands(types: &Types, root: &Root) -> bool
