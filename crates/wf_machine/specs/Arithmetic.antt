@@ -12,7 +12,6 @@ use Rattle.wf_operation.specs.declared.sort.Narrow.{Narrow}
 use Rattle.wf_operation.specs.declared.sort.Narrow.TheVariants.{Byte, Char, Short}
 use Rattle.wf_operation.specs.declared.sort.Sort.{Sort}
 use Rattle.wf_operation.specs.declared.sort.Sort.TheVariants as sort
-use Rattle.wf_operation.specs.Sorts.{sort_of}
 use Rattle.wf_machine.specs.declared.ints.OpResult.{OpResult}
 use Rattle.wf_machine.specs.declared.ints.OpResult.TheVariants as int
 use Rattle.wf_machine.specs.declared.longs.LongResult.{LongResult}
