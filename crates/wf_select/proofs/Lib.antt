@@ -1,2 +1,3 @@
+pub mod OneSelection
 pub mod OverridingLaws
 pub mod PackageWalk

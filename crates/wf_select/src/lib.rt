@@ -2,11 +2,13 @@
 #![tactic(auto)]
 
 mod invokespecial;
+mod laws;
 mod outcome;
 mod overriding;
 mod package;
 mod receiver;
 
 pub use invokespecial::special;
+pub use laws::calls_run_one;
 pub use outcome::{Invoke, Selected};
 pub use receiver::select;
