@@ -2,8 +2,10 @@
 //! which the place fails to link.
 #![tactic(auto)]
 
+mod laws;
 mod linked;
 mod symbolic;
 
+pub use laws::references_resolve_to_one;
 pub use linked::{Linked, LinkedField, LinkedMethod, link, resolve};
 pub use symbolic::{SymbolicRef, symbolic_of};
