@@ -1,5 +1,4 @@
-//! The written machine of the Java Virtual Machine (JVMS, SE 8): what a state is, what a step does, what an execution
-//! is, as definitions, and the pieces of it that are worked out: the arithmetic of ints and longs.
+//! What the Java Virtual Machine (JVMS, SE 8) works out: the arithmetic of ints and longs.
 #![tactic(auto)]
 
 mod ints;
