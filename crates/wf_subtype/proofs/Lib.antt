@@ -2,3 +2,5 @@ pub mod Collecting
 pub mod Making
 pub mod Naming
 pub mod TypeFacts
+pub mod RowBits
+pub mod RowLists

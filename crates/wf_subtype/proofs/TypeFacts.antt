@@ -13,6 +13,7 @@ use Rattle.wf_subtype.specs.declared.reference.Inner.{Inner}
 use Rattle.wf_subtype.specs.declared.reference.Reference.{Reference}
 use Rattle.wf_subtype.specs.References.{Refers, IsReferenceOf, letters, inner_text, inner_number, is_primitive, component_of, name_of}
 use Rattle.wf_subtype.proofs.Naming.{array_tail, inner_name, inner_letter}
+use Rattle.wf_subtype.specs.Rows.{IsThere}
 use Rattle.wf_subtype.specs.Universe.{IsType, IsUniverse}
 use Rattle.wf_subtype.specs.Universe.IsType.{class, made, given}
 use Rattle.wf_subtype.specs.Subtypes.{IsNameOfSome, AreFirstReferences, AreReferences, IsDeepest}
@@ -98,7 +99,7 @@ deepest_small classes names references deepest named h = go h.reached where
       let refers = named.each i (get_or names i []) p.1 there p.2 in
       omega (arith, refers.dims, p.3)
 
-name_inside : (classes : List ClassInfo) (c : ℕ) (name : List ℕ) → name_at classes c ≡ Some name → c < length classes
+pub name_inside : (classes : List ClassInfo) (c : ℕ) (name : List ℕ) → name_at classes c ≡ Some name → c < length classes
 name_inside classes c name e = go (slice_get classes c) refl e where
   go : (o : Option ClassInfo) → slice_get classes c ≡ o → option_map (λ (k : ClassInfo). k.name) o ≡ Some name → c < length classes
   go (Some k) is f = slice_get_within classes c k is
@@ -132,3 +133,20 @@ reference_inside classes names references i x named at =
 -- the component of what is read at a place
 pub component_known : (references : List Reference) (i : ℕ) (x r : Reference) (o : Option Reference) → slice_get references i ≡ Some x → slice_get references i ≡ Some r → o ≡ component_of x → component_of r ≡ o
 component_known references i x r o e f g = let s : x ≡ r = cc in ap component_of (sym s) ∙ sym g
+
+-- what stands below the dimensions of a name is there
+inner_text_there : (classes : List ClassInfo) (x : Inner) (text : List ℕ) → inner_text classes x ≡ Some text → IsThere (length classes) x
+inner_text_there classes (Class c) text e = let at = inner_name classes c text e in name_inside classes c.0 at.0 at.1
+inner_text_there classes (Primitive p) text e = let at = inner_letter p text classes e in slice_get_within letters p at.0 at.1
+
+refers_there : (classes : List ClassInfo) (name : List ℕ) (r : Reference) → Refers classes name r → IsThere (length classes) r.inner
+refers_there classes name r h = go r.dims r.inner h.text where
+  go : (n : ℕ) (x : Inner) → name_of classes n x ≡ Some name → IsThere (length classes) x
+  go zero (Class c) e = name_inside classes c.0 name e
+  go zero (Primitive p) e = absurd cc
+  go (suc n) x e = let at = array_tail classes n x name e in inner_text_there classes x at.0 at.1
+
+pub reference_there : (classes : List ClassInfo) (names : List (List ℕ)) (references : List Reference) (i : ℕ) (r : Reference) → AreReferences classes names references → slice_get references i ≡ Some r → IsThere (length classes) r.inner
+reference_there classes names references i r named at =
+    let there = slice_get-get_or names i [] (omega (arith, slice_get_within references i r at, named.count)) in
+    refers_there classes (get_or names i []) r (named.each i (get_or names i []) r there at)

@@ -1,3 +1,4 @@
 pub mod References
 pub mod Subtypes
 pub mod Universe
+pub mod Rows

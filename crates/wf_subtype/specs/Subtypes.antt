@@ -93,11 +93,3 @@ pub record IsNameOfSome (classes : List ClassInfo) (name : List ℕ) : Type 0 wh
 pub record AreFirstReferences (classes : List ClassInfo) (names : List (List ℕ)) (n : ℕ) (references : List Reference) : Type 0 where
   pub count : length references ≡ n
   pub each : (i : ℕ) (name : List ℕ) (r : Reference) → slice_get names i ≡ Some name → slice_get references i ≡ Some r → Refers classes name r
-
--- what is kept with the types
-pub record AreTypesKept (classes : List ClassInfo) (names : List (List ℕ)) (references : List Reference) (deepest : ℕ) : Type 0 where
-  pub world : IsClosedWorld classes
-  pub ascending : IsAscending names
-  pub few : length names < 2 ^ 32 - 1
-  pub named : AreReferences classes names references
-  pub depth : IsDeepest references deepest

@@ -2,6 +2,7 @@
 #![tactic(auto)]
 
 mod reference;
+mod rows;
 mod types;
 mod universe;
 

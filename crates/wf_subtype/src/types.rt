@@ -1,20 +1,23 @@
-ghost use Rattle.std.specs.Prelude.{◌≡◌, ◌+◌, ◌-◌, ◌<◌, ◌≤◌, ℕ, List, Some, option_map, position, length, slice_get, slice_index_or, IfOk, IsTrue};
+ghost use Rattle.std.specs.Prelude.{◌≡◌, ◌+◌, ◌-◌, ◌<◌, ◌≤◌, ◌↔◌, ℕ, List, Some, option_map, position, length, slice_get, slice_index_or, IfOk, IsTrue};
 ghost use Rattle.std.specs.Cmp.Lexicographic.{slice_cmp};
 ghost use Rattle.std.specs.Ordering.{nat_cmp};
 ghost use Rattle.std.specs.Str.{bytes_eq};
 ghost use Rattle.wf_classes.specs.World.{IsClosedWorld, IsAscending};
 ghost use Rattle.wf_subtype.specs.declared.reference.Reference.{Reference};
-ghost use Rattle.wf_subtype.specs.References.{component_of};
+ghost use Rattle.wf_subtype.specs.References.{component_of, target_count};
 ghost use Rattle.wf_subtype.specs.Universe.{IsUniverse, type_of};
-ghost use Rattle.wf_subtype.specs.Subtypes.{AreReferences, IsNameOfSome, IsDeepest, IsTargetFound, IsNumberOf};
+ghost use Rattle.wf_subtype.specs.Subtypes.{AreReferences, IsNameOfSome, IsDeepest, IsTargetFound, IsNumberOf, IsSubtype};
+ghost use Rattle.wf_subtype.specs.Rows.{IsMask};
 
 use crate::reference::{Reference, component_of, reference_of, target_number};
+use crate::rows::{Rows, rows_of};
 use crate::universe::type_names;
 use std::alloc::{AllocError, Global};
 use std::cmp::Ordering;
 use std::marker::Model;
 use wf_base::{Items, TargetId, Text, TypeId};
 use wf_classes::Classes;
+use wf_classes::heights::has;
 
 /// The types of a run. A contract sees the classes, the names of the types in their order, what these are names of,
 /// and the greatest number of dimensions among them. Type 0 is null, and the others are numbered from 1 on.
@@ -24,16 +27,18 @@ pub struct Types {
     names: Vec<Text>,
     references: Vec<Reference>,
     deepest: u32,
+    rows: Rows,
 }
 
 impl Model for Types {
-    ghost use Rattle.wf_subtype.specs.Subtypes.{AllTypes, AreTypesKept};
+    ghost use Rattle.wf_subtype.specs.Subtypes.{AllTypes};
+    ghost use Rattle.wf_subtype.specs.Rows.{AreTypesKept};
 
     ghost Value = { AllTypes };
 
     ghost view = { λ t. record { classes = t.classes; names = t.names.items; references = t.references.items; deepest = t.deepest } };
 
-    ghost invariant = { λ t. AreTypesKept t.classes t.names.items t.references.items t.deepest };
+    ghost invariant = { λ t. AreTypesKept (record { classes = t.classes; names = t.names.items; references = t.references.items; deepest = t.deepest }) t.rows };
 }
 
 /// What the types are, by their names.
@@ -98,11 +103,19 @@ pub fn types_of(alloc: Global, classes: Classes, named: &Items<Text>) -> Result<
     }
     let references = references_of(alloc, &classes, names.as_slice())?;
     let deepest = deepest_of(references.as_slice());
+    let rows = rows_of(
+        alloc,
+        &classes,
+        names.as_slice(),
+        references.as_slice(),
+        deepest,
+    )?;
     Ok(Types {
         classes,
         names,
         references,
         deepest,
+        rows,
     })
 }
 
@@ -159,6 +172,31 @@ impl Types {
             Some(r) => Some(TargetId(target_number(classes, self.deepest, r))),
             None => None,
         }
+    }
+
+    /// How many numbers targets have.
+    pub fn targets(&self) -> u32
+        ensures { result ≡ target_count (length self.now.classes) self.now.deepest }
+    {
+        self.rows.targets()
+    }
+
+    /// The types under a target, as a row of bits: bit t + 1 is type t, and bit 0 is never set. It has a bit for each
+    /// type.
+    pub fn mask(&self, u: TargetId) -> &[u64]
+        requires { u.0 < target_count (length self.now.classes) self.now.deepest }
+        ensures { IsMask self.now u.0 result.now }
+    {
+        self.rows.row(u)
+    }
+
+    /// Whether a type is under a target (JVMS 6.5, instanceof). Null is under all.
+    pub fn is_subtype(&self, t: TypeId, u: TargetId) -> bool
+        requires there { t.0 ≤ length self.now.names }
+        requires inside { u.0 < target_count (length self.now.classes) self.now.deepest }
+        ensures { IsTrue result ↔ IsSubtype self.now t.0 u.0 }
+    {
+        has(self.rows.row(u), t.0 + 1)
     }
 
     /// The name of a type other than null.
