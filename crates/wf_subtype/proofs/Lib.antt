@@ -4,3 +4,4 @@ pub mod Naming
 pub mod TypeFacts
 pub mod RowBits
 pub mod RowLists
+pub mod UnderLaws

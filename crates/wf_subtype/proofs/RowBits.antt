@@ -1,14 +1,13 @@
 -- Which bits are put into rows.
-use Rattle.std.proofs.Common.{◌≡◌, ℕ, zero, suc, ◌+◌, ◌*◌, ◌-◌, ◌/◌, ◌%◌, ◌<◌, ◌≤◌, ◌^◌, ◌↔◌, ◌⊎◌, inl, inr, Bool, true, false, List, length, Option, Some, None, get_or, refl, sym, ap, subst, ◌∙◌, arith}
-use Rattle.std.specs.Prelude.{slice_get, nat_le, ◌==◌, if◌then◌else◌}
-use Rattle.std.proofs.Math.Nat.{mul-le-mul_right}
+use Rattle.std.proofs.Common.{◌≡◌, ℕ, zero, suc, ◌+◌, ◌*◌, ◌/◌, ◌%◌, ◌<◌, ◌≤◌, ◌↔◌, ◌⊎◌, inl, inr, Bool, true, false, List, length, Option, Some, None, get_or, refl, sym, ap, subst, ◌∙◌, arith}
+use Rattle.std.specs.Prelude.{slice_get, if◌then◌else◌}
 use Rattle.std.proofs.lemmas.Bool.{cases_lt, cases_eq, le-leb, eq-eqb, eqb-true}
 use Rattle.std.proofs.lemmas.Option.{slice_get_within}
 use Rattle.std.specs.Int.{bit_at}
-use Rattle.wf_lattice.specs.Words.{has_bit, has_type, words_of}
+use Rattle.wf_lattice.specs.Words.{has_bit, words_of}
 use Rattle.wf_base.specs.declared.ids.ClassId.{ClassId}
 use Rattle.wf_data.specs.declared.class_info.ClassInfo.{ClassInfo}
-use Rattle.wf_classes.specs.World.{AreHeights, number_in, class_of}
+use Rattle.wf_classes.specs.World.{AreHeights, number_in}
 use Rattle.wf_classes.specs.Above.{Has, IsAbove, ClassesAbove, IsBelow, IsHighest}
 use Rattle.wf_classes.proofs.Sweep.{height_there, same_height, above_falls}
 use Rattle.wf_subtype.specs.declared.reference.Inner.{Inner}
@@ -17,10 +16,10 @@ use Rattle.wf_subtype.specs.declared.reference.Reference.{Reference}
 use Rattle.wf_subtype.specs.declared.rows.ArrayClasses.{ArrayClasses}
 use Rattle.wf_subtype.specs.declared.rows.Rows.{Rows}
 use Rattle.wf_subtype.specs.References.{inner_number, target_number, target_count}
-use Rattle.wf_subtype.specs.Subtypes.{AllTypes, IsAboveArrays, IsInnerUnder, IsInnerAboveArrays, IsUnder, IsSubtype, IsTargetOf, AreReferences, IsDeepest}
+use Rattle.wf_subtype.specs.Subtypes.{AllTypes, IsAboveArrays, IsInnerUnder, IsInnerAboveArrays, IsUnder, IsSubtype, AreReferences, IsDeepest}
 use Rattle.wf_subtype.specs.Subtypes.IsAboveArrays.{object, cloneable, serializable}
 use Rattle.wf_subtype.specs.Subtypes.IsSubtype.{null, under}
-use Rattle.wf_subtype.specs.Rows.{AreRows, AreFresh, AreArrayClasses, HaveMasks, IsMask, Puts, IsBit, IsClassBit, IsArraysBit, IsInnerBit, IsTypeBit, IsBitBelow, IsThere, row_at, row_words}
+use Rattle.wf_subtype.specs.Rows.{AreRows, AreFresh, AreArrayClasses, HaveMasks, IsMask, Puts, IsBit, IsClassBit, IsArraysBit, IsInnerBit, IsTypeBit, IsBitBelow, row_at, row_words}
 
 -- ---- putting one set of bits after another
 

@@ -1,11 +1,11 @@
 -- The rows of bits that say which types are under each target (this project's own): bit 0 is never set, and bit t + 1
 -- is type t, so that null is bit 1. Targets that null alone is under share the first row.
-use Rattle.std.specs.Prelude.{◌≡◌, ℕ, ◌+◌, ◌-◌, ◌*◌, ◌/◌, ◌<◌, ◌≤◌, ◌^◌, ◌↔◌, ◌⊎◌, false, true, List, [], length, slice_get, slice_index, slice_index_or, Option, Some, None}
+use Rattle.std.specs.Prelude.{◌≡◌, ℕ, ◌+◌, ◌-◌, ◌*◌, ◌/◌, ◌<◌, ◌^◌, ◌↔◌, ◌⊎◌, false, true, List, [], length, slice_get, slice_index, slice_index_or, Some}
 use Rattle.wf_lattice.specs.Words.{has_bit, has_type, words_of}
 use Rattle.wf_data.specs.declared.class_info.ClassInfo.{ClassInfo}
 use Rattle.wf_names.specs.Names.{object_name}
 use Rattle.wf_classes.specs.World.{number_in, class_of, IsClosedWorld, IsAscending}
-use Rattle.wf_classes.specs.Above.{IsAbove, Has}
+use Rattle.wf_classes.specs.Above.{Has}
 use Rattle.wf_subtype.specs.References.{inner_number, target_count}
 use Rattle.wf_subtype.specs.Subtypes.{AllTypes, IsAboveArrays, IsInnerUnder, IsUnder, IsSubtype, AreReferences, IsDeepest, cloneable_name, serializable_name}
 use Rattle.wf_subtype.specs.declared.rows.Rows.{Rows}

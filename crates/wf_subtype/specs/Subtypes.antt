@@ -1,8 +1,8 @@
 -- Subtyping (JVMS 6.5, instanceof), by classes and arrays and by their numbers.
-use Rattle.std.specs.Prelude.{◌≡◌, ℕ, zero, suc, ◌+◌, ◌<◌, ◌≤◌, ◌⊎◌, List, length, codes, Option, Some, None, slice_get, ◌-◌, ◌^◌}
+use Rattle.std.specs.Prelude.{◌≡◌, ℕ, zero, suc, ◌+◌, ◌≤◌, ◌⊎◌, List, length, codes, Option, Some, None, slice_get}
 use Rattle.wf_data.specs.declared.class_info.ClassInfo.{ClassInfo}
 use Rattle.wf_names.specs.Names.{object_name}
-use Rattle.wf_classes.specs.World.{class_of, IsClosedWorld, IsAscending}
+use Rattle.wf_classes.specs.World.{class_of}
 use Rattle.wf_classes.specs.Above.{IsAbove}
 use Rattle.wf_subtype.specs.declared.reference.Inner.{Inner}
 use Rattle.wf_subtype.specs.declared.reference.Inner.TheVariants.{Class, Primitive}
