@@ -1,0 +1,7 @@
+//! What whole small worlds answer.
+
+mod binding;
+mod made;
+mod members;
+mod programs;
+mod words;
