@@ -1,5 +1,5 @@
 -- What an instruction does with slots (JVMS 6.5). Everything that reads code stands on this.
-use Rattle.std.specs.Prelude.{ℕ, ◌+◌, ◌-◌, Bool, true, false, not, ◌&&◌, ◌||◌, List, [], ◌∷◌, map, length, slice_index, slice_index_or, nat_lt, nat_le, ◌==◌, if◌then◌else◌}
+use Rattle.std.specs.Prelude.{ℕ, ◌+◌, ◌-◌, Bool, ◌&&◌, ◌||◌, List, [], ◌∷◌, map, length, slice_index, slice_index_or, nat_lt, nat_le, ◌==◌, if◌then◌else◌}
 use Rattle.std.specs.List.{range_with_len}
 use Rattle.wf_base.specs.declared.kind.Kind.{Kind}
 use Rattle.wf_operation.specs.declared.slot.SlotKind.{SlotKind}

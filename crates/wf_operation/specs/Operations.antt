@@ -11,7 +11,7 @@ use Rattle.wf_data.specs.Pool.{class_at}
 use Rattle.wf_descriptor.specs.Descriptors.{is_method_descriptor}
 use Rattle.wf_opcode.specs.Instructions.{place_of}
 use Rattle.wf_operation.specs.declared.slot.SlotKind.{SlotKind}
-use Rattle.wf_operation.specs.declared.slot.SlotKind.TheVariants.{Int, Ref, Long, LongRest, Unused}
+use Rattle.wf_operation.specs.declared.slot.SlotKind.TheVariants.{Int, Ref, Long, LongRest}
 use Rattle.wf_operation.specs.declared.sort.Sort.{Sort}
 use Rattle.wf_operation.specs.declared.sort.Sort.TheVariants as sort
 use Rattle.wf_operation.specs.declared.sort.Element.{Element}

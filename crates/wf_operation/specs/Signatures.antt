@@ -1,5 +1,5 @@
 -- The slots that a call takes and gives, read off the descriptor of its method (JVMS 4.3.3) from the front.
-use Rattle.std.specs.Prelude.{ℕ, Bool, true, ◌&&◌, List, [], ◌∷◌, ◌++◌, fold, Option, Some, None, ◌==◌, if◌then◌else◌}
+use Rattle.std.specs.Prelude.{ℕ, true, ◌&&◌, List, [], ◌∷◌, ◌++◌, fold, Option, Some, None, ◌==◌, if◌then◌else◌}
 use Rattle.wf_base.specs.declared.kind.Kind.{Kind}
 use Rattle.wf_base.specs.declared.kind.Kind.TheVariants as kind
 use Rattle.wf_descriptor.specs.Descriptors.{kind_of}

@@ -1,6 +1,6 @@
 -- Slots, where their contents come from, and what instructions want of them. The slots of a method are one
 -- list: its locals, and behind them the cells of the operand stack, the top last (JVMS 2.6).
-use Rattle.std.specs.Prelude.{ℕ, ◌+◌, ◌-◌, Bool, true, false, not, List, [], ◌∷◌, map, slice_index_or, nat_lt, nat_le, ◌==◌, if◌then◌else◌}
+use Rattle.std.specs.Prelude.{ℕ, Bool, true, false, not, List, [], ◌∷◌, slice_index_or, if◌then◌else◌}
 use Rattle.wf_base.specs.declared.kind.Kind.{Kind}
 use Rattle.wf_base.specs.declared.kind.Kind.TheVariants as kind
 use Rattle.wf_operation.specs.declared.slot.SlotKind.{SlotKind}

@@ -21,6 +21,7 @@ pub use slot::{SlotKind, Source, Wanted, allows, moved, slots_of};
 pub use sort::{
     Arithmetic, Call, Element, Equality, Narrow, Shift, Shuffle, Sort, kind_of_element, sort_of,
 };
+pub use stack::place_of;
 
 #[cfg(test)]
 mod tests;
