@@ -1,7 +1,10 @@
 pub mod Collecting
 pub mod Making
 pub mod Naming
+pub mod Numbers
 pub mod TypeFacts
 pub mod RowBits
 pub mod RowLists
 pub mod UnderLaws
+pub mod NameLaws
+pub mod ObjectClass

@@ -1,11 +1,10 @@
--- Laws of subtyping, of names and of numbers.
-use Rattle.std.proofs.Common.{◌≡◌, ℕ, ◌+◌, ◌*◌, ◌<◌, ◌≤◌, ◌⊎◌, ◌↔◌, inl, inr, Bool, false, List, length, Some, refl, sym, ap, subst, ◌∙◌, arith}
-use Rattle.std.specs.Prelude.{nat_le, if◌then◌else◌}
+-- Laws of subtyping and of numbers.
+use Rattle.std.proofs.Common.{◌≡◌, ℕ, zero, suc, ◌+◌, ◌*◌, ◌<◌, ◌≤◌, ◌⊎◌, ◌↔◌, inl, inr, List, length, Option, Some, None, refl, sym, ap, subst, ◌∙◌, arith}
+use Rattle.std.specs.Prelude.{slice_get}
 use Rattle.std.proofs.Math.Nat.{mul-le-mul_right, suc-mul}
 use Rattle.std.proofs.lemmas.Bool.{cases_lt}
-use Rattle.std.proofs.lemmas.Bool.Decides.{leb_tells}
 use Rattle.wf_data.specs.declared.class_info.ClassInfo.{ClassInfo}
-use Rattle.wf_classes.specs.World.{AreHeights, class_of}
+use Rattle.wf_classes.specs.World.{AreHeights, IsClosedWorld, IsAscending, class_of, name_at, superclass_of, superinterfaces_of}
 use Rattle.wf_classes.specs.Above.{IsAbove, IsDirectlyAbove}
 use Rattle.wf_classes.specs.Above.IsAbove.{itself, through}
 use Rattle.wf_classes.specs.Above.IsDirectlyAbove.{superclass, superinterface}
@@ -22,10 +21,11 @@ use Rattle.wf_subtype.specs.Rows.{IsThere}
 use Rattle.wf_subtype.specs.Laws.{AreClosedAboveArrays, IsUnderReference}
 use Rattle.wf_subtype.specs.Laws.IsUnderReference.{is_null, is_under}
 use Rattle.wf_subtype.proofs.Naming.{class_there}
+use Rattle.wf_subtype.proofs.Numbers.{suc_le, target_above}
 use Rattle.wf_subtype.proofs.RowBits.{under_cases, under_same, under_arrays, target_below}
 use Rattle.wf_subtype.proofs.TypeFacts.{name_inside, reference_there}
 
-same_reference : (m n : ℕ) (x y : Inner) → m ≡ n → x ≡ y → ◌≡◌ {A = Reference} (record { dims = m; inner = x }) (record { dims = n; inner = y })
+pub same_reference : (m n : ℕ) (x y : Inner) → m ≡ n → x ≡ y → ◌≡◌ {A = Reference} (record { dims = m; inner = x }) (record { dims = n; inner = y })
 same_reference m n x y e f = ap (λ k. record { dims = k; inner = x }) e ∙ ap (λ (i : Inner). record { dims = n; inner = i }) f
 
 -- ---- order
@@ -96,20 +96,11 @@ numbers_apart classes m n x y p q e = go (cases_lt m n) (cases_lt n m) where
       let same : m ≡ n = omega (arith, a, b) in
       (same, inner_apart classes x y p q (omega (arith, e, ap (λ k. k * (classes + 8)) same)))
 
-not_le : (m n : ℕ) → n < m → nat_le m n ≡ false
-not_le m n l = elim (leb_tells m n) [ inl a ↦ absurd (omega (arith, a.1, l)) | inr b ↦ b.0 ]
-
-suc_le : (m n : ℕ) → m ≤ n → m < n + 1
-suc_le m n l = omega (arith, l)
-
 -- a number is that of one class or array, where it is no deeper than the types
 pub targets_apart : (classes deepest : ℕ) (r s : Reference) → IsThere classes r.inner → IsThere classes s.inner → r.dims ≤ deepest → target_number classes deepest r ≡ target_number classes deepest s → r ≡ s
 targets_apart classes deepest r s p q l e = go (cases_lt deepest s.dims) where
-  deep : deepest < s.dims → target_number classes deepest s ≡ (deepest + 1) * (classes + 8)
-  deep d = ap (λ (t : Bool). if t then s.dims * (classes + 8) + inner_number classes s.inner else (deepest + 1) * (classes + 8)) (not_le s.dims deepest d)
-
   go : ((deepest < s.dims) ⊎ (s.dims ≤ deepest)) → r ≡ s
-  go (inl d) = absurd (omega (arith, target_below classes deepest r l, e, deep d, inner_small classes r.inner p, suc-mul r.dims (classes + 8), mul-le-mul_right (classes + 8) (suc_le r.dims deepest l)))
+  go (inl d) = absurd (omega (arith, target_below classes deepest r l, e, target_above classes deepest s d, inner_small classes r.inner p, suc-mul r.dims (classes + 8), mul-le-mul_right (classes + 8) (suc_le r.dims deepest l)))
   go (inr m) = let same = numbers_apart classes r.dims s.dims r.inner s.inner p q (sym (target_below classes deepest r l) ∙ e ∙ target_below classes deepest s m) in same_reference r.dims s.dims r.inner s.inner same.0 same.1
 
 -- ---- what is above is there

@@ -2,7 +2,8 @@
 use Rattle.std.specs.Prelude.{◌≡◌, replicate, ℕ, zero, suc, ◌+◌, ◌*◌, ◌<◌, ◌≤◌, ◌==◌, List, [], ◌∷◌, ◌++◌, length, Option, Some, None, option_map, slice_get, nat_le, if◌then◌else◌, ◌-◌, ◌&&◌, Bool, true, false}
 use Rattle.std.specs.List.{take_while}
 use Rattle.wf_data.specs.declared.class_info.ClassInfo.{ClassInfo}
-use Rattle.wf_classes.specs.World.{name_at}
+use Rattle.wf_names.specs.Names.{object_name}
+use Rattle.wf_classes.specs.World.{name_at, class_of}
 use Rattle.wf_subtype.specs.declared.reference.Inner.{Inner}
 use Rattle.wf_subtype.specs.declared.reference.Inner.TheVariants.{Class, Primitive}
 use Rattle.wf_subtype.specs.declared.reference.Reference.{Reference}
@@ -57,6 +58,13 @@ pub record IsArray (classes : List ClassInfo) (name : List ℕ) : Type 0 where
   pub reference : Reference
   pub refers : Refers classes name reference
   pub dims : 0 < reference.dims
+
+-- The class whose members the objects of a class or an array have: of an array those of java/lang/Object (JVMS 5.4.3.2,
+-- 5.4.3.3; 6.5, invokevirtual).
+abbrev pub class_of_objects : List ClassInfo → ℕ → Inner → Option ℕ
+class_of_objects classes zero (Class c) = Some c.0
+class_of_objects classes zero (Primitive p) = None
+class_of_objects classes (suc n) x = class_of classes object_name
 
 -- ---- numbers (this project's own)
 

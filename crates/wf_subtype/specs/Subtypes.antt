@@ -1,5 +1,5 @@
 -- Subtyping (JVMS 6.5, instanceof), by classes and arrays and by their numbers.
-use Rattle.std.specs.Prelude.{◌≡◌, ℕ, zero, suc, ◌+◌, ◌≤◌, ◌⊎◌, List, length, codes, Option, Some, None, slice_get}
+use Rattle.std.specs.Prelude.{◌≡◌, ℕ, zero, suc, ◌+◌, ◌-◌, ◌≤◌, ◌⊎◌, List, length, codes, Option, Some, None, slice_get}
 use Rattle.wf_data.specs.declared.class_info.ClassInfo.{ClassInfo}
 use Rattle.wf_names.specs.Names.{object_name}
 use Rattle.wf_classes.specs.World.{class_of}
@@ -7,7 +7,7 @@ use Rattle.wf_classes.specs.Above.{IsAbove}
 use Rattle.wf_subtype.specs.declared.reference.Inner.{Inner}
 use Rattle.wf_subtype.specs.declared.reference.Inner.TheVariants.{Class, Primitive}
 use Rattle.wf_subtype.specs.declared.reference.Reference.{Reference}
-use Rattle.wf_subtype.specs.References.{Refers, target_number}
+use Rattle.wf_subtype.specs.References.{Refers, target_number, class_of_objects}
 
 -- ---- subtyping
 
@@ -73,6 +73,12 @@ IsTargetFound types name (Some u) = (r : Reference) × Refers types.classes name
 pub data IsSubtype (types : AllTypes) (t u : ℕ) : Type 0 where
   null : t ≡ 0 → IsSubtype types t u
   under : (i : ℕ) (r s : Reference) → t ≡ i + 1 → slice_get types.references i ≡ Some r → IsTargetOf types u s → IsUnder types.classes r.dims r.inner s.dims s.inner → IsSubtype types t u
+
+-- class c is the one whose members the objects of type t have
+pub record IsClassOfType (types : AllTypes) (t c : ℕ) : Type 0 where
+  pub reference : Reference
+  pub there : slice_get types.references (t - 1) ≡ Some reference
+  pub class : class_of_objects types.classes reference.dims reference.inner ≡ Some c
 
 -- each type is what its name is the name of
 pub record AreReferences (classes : List ClassInfo) (names : List (List ℕ)) (references : List Reference) : Type 0 where

@@ -2,9 +2,9 @@
 
 ghost use Rattle.std.specs.Prelude.{◌≡◌, ◌≤◌, ◌↔◌, ℕ, List, length};
 ghost use Rattle.wf_data.specs.declared.class_info.ClassInfo.{ClassInfo};
-ghost use Rattle.wf_classes.specs.World.{AreHeights};
+ghost use Rattle.wf_classes.specs.World.{AreHeights, IsClosedWorld};
 ghost use Rattle.wf_subtype.specs.declared.reference.Reference.{Reference};
-ghost use Rattle.wf_subtype.specs.References.{target_number};
+ghost use Rattle.wf_subtype.specs.References.{Refers, target_number};
 ghost use Rattle.wf_subtype.specs.Subtypes.{AllTypes, IsUnder, IsTargetOf, IsSubtype, AreReferences, IsDeepest};
 ghost use Rattle.wf_subtype.specs.Rows.{IsThere};
 ghost use Rattle.wf_subtype.specs.Laws.{AreClosedAboveArrays, IsUnderReference};
@@ -29,4 +29,9 @@ pub fn targets_have_numbers_of_their_own()
         target_number classes deepest r ≡ target_number classes deepest s → r ≡ s }
     ensures subtypes { (types : AllTypes) (t u : ℕ) (s : Reference) → AreReferences types.classes types.names types.references → IsDeepest types.references types.deepest →
         IsThere (length types.classes) s.inner → IsTargetOf types u s → IsSubtype types t u ↔ IsUnderReference types t s }
+{}
+
+/// A name is that of one class or array at most.
+pub fn names_have_one_reference()
+    ensures { (classes : List ClassInfo) (name : List ℕ) (r s : Reference) → IsClosedWorld classes → Refers classes name r → Refers classes name s → r ≡ s }
 {}

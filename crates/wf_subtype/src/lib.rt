@@ -7,10 +7,10 @@ mod rows;
 mod types;
 mod universe;
 
-pub use laws::{subtypes_are_ordered, targets_have_numbers_of_their_own};
+pub use laws::{names_have_one_reference, subtypes_are_ordered, targets_have_numbers_of_their_own};
 pub use reference::{Inner, Reference, component_of, reference_of};
 pub use types::{Types, types_of};
-pub use universe::type_names;
+pub use universe::{array_name, letter_of, operand_name, type_names};
 
 #[cfg(test)]
 mod tests;

@@ -1,7 +1,7 @@
 ghost use Rattle.std.specs.Prelude.{◌≡◌, ◌+◌, ◌^◌, ◌<◌, ◌≤◌, ◌==◌, position};
 ghost use Rattle.std.specs.Option.{option_copied};
-ghost use Rattle.wf_classes.specs.World.{IsClosedWorld};
-ghost use Rattle.wf_subtype.specs.References.{is_primitive, component_of, letters, brackets, IsClassText, IsPrimitiveOf, IsReferenceOf, IsInnerOf, inner_number, target_number};
+ghost use Rattle.wf_classes.specs.World.{IsClosedWorld, number_in};
+ghost use Rattle.wf_subtype.specs.References.{is_primitive, component_of, letters, brackets, IsClassText, IsPrimitiveOf, IsReferenceOf, IsInnerOf, inner_number, target_number, class_of_objects};
 
 use wf_base::ClassId;
 use wf_classes::Classes;
@@ -151,5 +151,18 @@ pub fn target_number(classes: u32, deepest: u32, r: Reference) -> u32
         r.dims * (classes + 8) + inner_number(classes, r.inner)
     } else {
         (deepest + 1) * (classes + 8)
+    }
+}
+
+/// The class whose members the objects of a class or an array have: of an array those of `java/lang/Object`.
+pub fn class_of_objects(classes: &Classes, r: Reference) -> Option<ClassId>
+    ensures { number_in result ≡ class_of_objects classes.now r.dims r.inner }
+{
+    if r.dims != 0 {
+        return classes.find(b"java/lang/Object".as_slice());
+    }
+    match r.inner {
+        Inner::Class(c) => Some(c),
+        Inner::Primitive(_) => None,
     }
 }

@@ -1,4 +1,4 @@
-ghost use Rattle.std.specs.Prelude.{◌≡◌, ◌+◌, ◌-◌, ◌<◌, ◌≤◌, ◌↔◌, ℕ, List, Some, option_map, position, length, slice_get, slice_index_or, IfOk, IsTrue};
+ghost use Rattle.std.specs.Prelude.{◌≡◌, ◌+◌, ◌-◌, ◌<◌, ◌≤◌, ◌↔◌, ℕ, List, Some, option_map, position, length, slice_get, slice_index_or, IfOk, IfSome, IsTrue};
 ghost use Rattle.std.specs.Cmp.Lexicographic.{slice_cmp};
 ghost use Rattle.std.specs.Ordering.{nat_cmp};
 ghost use Rattle.std.specs.Str.{bytes_eq};
@@ -6,16 +6,16 @@ ghost use Rattle.wf_classes.specs.World.{IsClosedWorld, IsAscending};
 ghost use Rattle.wf_subtype.specs.declared.reference.Reference.{Reference};
 ghost use Rattle.wf_subtype.specs.References.{component_of, target_count};
 ghost use Rattle.wf_subtype.specs.Universe.{IsUniverse, type_of};
-ghost use Rattle.wf_subtype.specs.Subtypes.{AreReferences, IsNameOfSome, IsDeepest, IsTargetFound, IsNumberOf, IsSubtype};
+ghost use Rattle.wf_subtype.specs.Subtypes.{AreReferences, IsNameOfSome, IsDeepest, IsTargetFound, IsNumberOf, IsSubtype, IsClassOfType};
 ghost use Rattle.wf_subtype.specs.Rows.{IsMask};
 
-use crate::reference::{Reference, component_of, reference_of, target_number};
+use crate::reference::{Reference, class_of_objects, component_of, reference_of, target_number};
 use crate::rows::{Rows, rows_of};
 use crate::universe::type_names;
 use std::alloc::{AllocError, Global};
 use std::cmp::Ordering;
 use std::marker::Model;
-use wf_base::{Items, TargetId, Text, TypeId};
+use wf_base::{ClassId, Items, TargetId, Text, TypeId};
 use wf_classes::Classes;
 use wf_classes::heights::has;
 
@@ -141,7 +141,8 @@ impl Types {
 
     /// The type of a name. None exactly where the universe has no type of this name.
     pub fn find(&self, name: &[u8]) -> Option<TypeId>
-        ensures { option_map (λ t. t.0) result ≡ type_of self.now.names name.now }
+        ensures found { option_map (λ t. t.0) result ≡ type_of self.now.names name.now }
+        ensures within { IfSome result (λ t. t.0 ≤ length self.now.names) }
     {
         match name_place(self.names.as_slice(), name) {
             Some(i) => Some(TypeId(i as u32 + 1)),
@@ -152,7 +153,8 @@ impl Types {
     /// The number of the class or the array of a name. None exactly where no class that is there and no array of one
     /// has the name.
     pub fn target(&self, name: &[u8]) -> Option<TargetId>
-        ensures { IsTargetFound self.now name.now (option_map (λ u. u.0) result) }
+        ensures found { IsTargetFound self.now name.now (option_map (λ u. u.0) result) }
+        ensures within { IfSome result (λ u. u.0 < target_count (length self.now.classes) self.now.deepest) }
     {
         let classes = self.classes.list().as_slice().len() as u32;
         match reference_of(&self.classes, name) {
@@ -165,7 +167,8 @@ impl Types {
     pub fn component(&self, t: TypeId) -> Option<TargetId>
         requires some { 0 < t.0 }
         requires there { t.0 ≤ length self.now.names }
-        ensures { (r : Reference) → slice_get self.now.references (t.0 - 1) ≡ Some r → IsNumberOf self.now (component_of r) (option_map (λ u. u.0) result) }
+        ensures number { (r : Reference) → slice_get self.now.references (t.0 - 1) ≡ Some r → IsNumberOf self.now (component_of r) (option_map (λ u. u.0) result) }
+        ensures within { IfSome result (λ u. u.0 < target_count (length self.now.classes) self.now.deepest) }
     {
         let classes = self.classes.list().as_slice().len() as u32;
         match component_of(self.references[t.0 as usize - 1]) {
@@ -208,6 +211,16 @@ impl Types {
         self.names[t.0 as usize - 1].as_slice()
     }
 
+    /// What class or array each type other than null is, in the order of their names.
+    pub fn references(&self) -> &[Reference]
+        ensures is { result.now ≡ self.now.references }
+        ensures world { IsClosedWorld self.now.classes }
+        ensures named { AreReferences self.now.classes self.now.names self.now.references }
+        ensures depth { IsDeepest self.now.references self.now.deepest }
+    {
+        self.references.as_slice()
+    }
+
     /// What class or array a type other than null is.
     pub fn reference(&self, t: TypeId) -> Reference
         requires some { 0 < t.0 }
@@ -215,5 +228,16 @@ impl Types {
         ensures there { slice_get self.now.references (t.0 - 1) ≡ Some result }
     {
         self.references[t.0 as usize - 1]
+    }
+
+    /// The class whose members the objects of a type other than null have: of an array those of `java/lang/Object`
+    /// (JVMS 6.5, invokevirtual).
+    pub fn class_of(&self, t: TypeId) -> ClassId
+        requires some { 0 < t.0 }
+        requires there { t.0 ≤ length self.now.names }
+        ensures class { IsClassOfType self.now t.0 result.0 }
+        ensures within { result.0 < length self.now.classes }
+    {
+        class_of_objects(&self.classes, self.references[t.0 as usize - 1]).unwrap()
     }
 }

@@ -61,7 +61,7 @@ fn second_operand(instr: &Instr) -> Option<u16>
 }
 
 /// The name of a class or an array that an instruction has as its operand.
-fn operand_name<'p>(pool: &'p [PoolEntry], instr: &Instr) -> Option<&'p [u8]>
+pub fn operand_name<'p>(pool: &'p [PoolEntry], instr: &Instr) -> Option<&'p [u8]>
     ensures { option_copied result ≡ operand_name pool.now instr.now }
 {
     class_at(pool, first_operand(instr)?)

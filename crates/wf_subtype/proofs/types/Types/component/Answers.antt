@@ -4,8 +4,9 @@ use Rattle.std.proofs.lemmas.Option.{slice_get_read}
 use Rattle.wf_data.specs.declared.class_info.ClassInfo.{ClassInfo}
 use Rattle.wf_subtype.specs.declared.reference.Inner.{Inner}
 use Rattle.wf_subtype.specs.declared.reference.Reference.{Reference}
-use Rattle.wf_subtype.specs.References.{inner_number, target_number}
+use Rattle.wf_subtype.specs.References.{inner_number, target_number, target_count}
 use Rattle.wf_subtype.specs.Subtypes.{AllTypes, IsNumberOf}
+use Rattle.wf_subtype.proofs.Numbers.{number_within}
 use Rattle.wf_subtype.proofs.TypeFacts.{deepest_small, component_inner, component_known, reference_inside}
 use Rattle.wf_subtype.proofs.types.Types.component.Goals as goal
 
@@ -25,8 +26,8 @@ target_number-requires-clause-inside c =
     subst (λ (ks : List ClassInfo). inner_number (length ks) c.in-Some.r.inner < length ks + 8) (sym (c.as_slice.ensures ∙ c.list.ensures.same))
     (subst (λ (y : Inner). inner_number (length classes) y < length classes + 8) (sym inner) (reference_inside classes c.self.inside.names.items all i x c.self.invariant.named there))
 
-pub returns-in-Some : goal.returns-in-Some
-returns-in-Some c r at =
+pub returns-in-Some-clause-number : goal.returns-in-Some-clause-number
+returns-in-Some-clause-number c r at =
     let all = c.self.inside.references.items in
     let i : ℕ = c.args.t.0 - 1 in
     let x = c.index.result.now in
@@ -42,8 +43,23 @@ returns-in-Some c r at =
           ∙ ap (λ (v : AllTypes). target_number (length v.classes) v.deepest found) c.self.view_is;
     })
 
-pub returns-in-None : goal.returns-in-None
-returns-in-None c r at =
+pub returns-in-Some-clause-within : goal.returns-in-Some-clause-within
+returns-in-Some-clause-within c =
+    let all = c.self.inside.references.items in
+    let classes = c.self.inside.classes in
+    let i : ℕ = c.args.t.0 - 1 in
+    let x = c.index.result.now in
+    let n : ℕ = c.target_number.result in
+    let there : slice_get all i ≡ Some x = slice_get_read all (length all) i x refl (omega (arith, c.requires.some, c.requires.there, c.self.invariant.named.count, ap (λ (v : AllTypes). length v.names) c.self.view_is)) c.index.ensures in
+    let inner = component_inner x c.in-Some.r (sym c.in-Some.ensures) in
+    let small = subst (λ (y : Inner). inner_number (length classes) y < length classes + 8) (sym inner) (reference_inside classes c.self.inside.names.items all i x c.self.invariant.named there) in
+    let number : n ≡ target_number (length classes) c.self.inside.deepest c.in-Some.r =
+    c.target_number.ensures ∙ ap (λ (ks : List ClassInfo). target_number (length ks) c.self.inside.deepest c.in-Some.r) (c.as_slice.ensures ∙ c.list.ensures.same) in
+    subst (λ (v : AllTypes). n < target_count (length v.classes) v.deepest) c.self.view_is
+    (subst (λ k. k < target_count (length classes) c.self.inside.deepest) (sym number) (number_within (length classes) c.self.inside.deepest c.in-Some.r small))
+
+pub returns-in-None-clause-number : goal.returns-in-None-clause-number
+returns-in-None-clause-number c r at =
     let all = c.self.inside.references.items in
     let i : ℕ = c.args.t.0 - 1 in
     let x = c.index.result.now in
