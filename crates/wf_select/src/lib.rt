@@ -3,6 +3,7 @@
 
 mod invokespecial;
 mod laws;
+mod of_type;
 mod outcome;
 mod overriding;
 mod package;
@@ -10,5 +11,6 @@ mod receiver;
 
 pub use invokespecial::special;
 pub use laws::calls_run_one;
+pub use of_type::select_of_type;
 pub use outcome::{Invoke, Selected};
 pub use receiver::select;
