@@ -5,3 +5,5 @@ pub mod ShapeLaws
 pub mod NumberLaws
 pub mod AgreeLaws
 pub mod SideLaws
+pub mod FitLaws
+pub mod KeptLaws

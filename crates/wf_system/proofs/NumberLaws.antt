@@ -184,3 +184,10 @@ module _ {N K : Type 0} (b : Numbering N K) (t : Tables N) (u : Tables K) (alike
         below z s n None e = subst (λ (f : ℕ → ℕ). AtLeast t n f (z n)) (sym (ap (at_number x) e)) (inr (record { each = λ w. refl }))
         below z s n (Some k) e = subst₂ (λ (f g : ℕ → ℕ). AtLeast t n f g) (sym (named_agrees x n k e)) (sym (numbered_agrees z n k e))
             (along (sym (at_least_alike b.number t u alike z (by_number b.name z) (numbered_agrees z) n k e (x k) (by_number b.name z k))) (l.least (by_number b.name z) (solves_by_number z s) k))
+
+-- a least solution of some inequalities is one of the same in another list
+solves_alike : {N : Type 0} (t : Tables N) (S T : Inequality N → Type 0) (seeds x : N → ℕ → ℕ) → ((q : Inequality N) → T q → S q) → Solves t S seeds x → Solves t T seeds x
+solves_alike t S T seeds x back s = record { above = s.above; meets = λ q there. s.meets q (back q there) }
+
+pub least_alike : {N : Type 0} (t : Tables N) (S T : Inequality N → Type 0) (seeds x : N → ℕ → ℕ) → ((q : Inequality N) → S q → T q) → ((q : Inequality N) → T q → S q) → Least t S seeds x → Least t T seeds x
+least_alike t S T seeds x forth back l = record { solves = solves_alike t S T seeds x back l.solves; least = λ y s. l.least y (solves_alike t T S seeds y forth s) }

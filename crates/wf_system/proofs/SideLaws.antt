@@ -1,5 +1,5 @@
 -- The entry of a type in a table that ascends.
-use Rattle.std.proofs.Common.{◌≡◌, ◌≢◌, ℕ, zero, suc, ◌<◌, ◌≤◌, ◌==◌, ◌⊎◌, inl, inr, true, false, List, [], ◌∷◌, length, Option, Some, None, slice_index_or, refl, sym, ap, ◌+◌, ◌∙◌, arith, eq-eqb, ne_eqb}
+use Rattle.std.proofs.Common.{◌≡◌, ◌≢◌, ℕ, zero, suc, ◌<◌, ◌≤◌, ◌==◌, ◌⊎◌, inl, inr, Bool, true, false, if◌then◌else◌, List, [], ◌∷◌, length, Some, None, slice_index_or, refl, sym, ap, ◌+◌, ◌-◌, ◌∙◌, arith, eq-eqb, ne_eqb}
 use Rattle.std.proofs.lemmas.Bool.{cond-true, cond-false, cases_eq, cases_order}
 use Rattle.std.proofs.lemmas.List.{get_or_default}
 use Rattle.wf_system.specs.declared.pick.Pick.{Pick}
@@ -64,3 +64,51 @@ narrows_down table c low high middle d up n lt le more = record {
     go : (i : ℕ) (e : Pick) → middle ≤ i → i < length table → ((i ≡ middle) ⊎ (i ≡ middle → ⊥)) → c ≤ (slice_index_or table i e).t.0
     go i e from inside (inl same) = omega (arith, more, ap (λ (p : Pick). p.t.0) (get_or_default table middle d e (omega (arith, n.inside))), ap (λ (k : ℕ). (slice_index_or table k e).t.0) same)
     go i e from inside (inr other) = omega (arith, more, up.each middle i e (omega (arith, other)) inside, ap (λ (p : Pick). p.t.0) (get_or_default table middle d e (omega (arith, n.inside))))
+
+-- each entry is the one that its type picks
+pub entry_is_picked : (table : List Pick) (place : ℕ) (d : Pick) → Ascends table → place < length table → pick_of table (slice_index_or table place d).t.0 ≡ Some (slice_index_or table place d).candidate
+entry_is_picked table place d up lt = picked_there table (slice_index_or table place d).t.0 place d
+    (λ i e less. omega (arith, up.each i place e less lt, ap (λ (p : Pick). p.t.0) (get_or_default table place e d lt))) lt refl
+
+-- where all candidates are below a number, each that is picked is
+pub candidates_below : (table : List Pick) (n : ℕ) → ((i : ℕ) (d : Pick) → i < length table → (slice_index_or table i d).candidate < n) → (c j : ℕ) → pick_of table c ≡ Some j → j < n
+candidates_below [] n each c j e = absurd cc
+candidates_below (p ∷ rest) n each c j e = go (p.t.0 == c) (λ f. candidates_below rest n (λ i d lt. each (suc i) d (omega arith)) c j f) e
+  where
+    some_one : (i j : ℕ) → Some i ≡ Some j → i ≡ j
+    some_one i j e = cc
+
+    go : (b : Bool) → (pick_of rest c ≡ Some j → j < n) → (if b then Some p.candidate else pick_of rest c) ≡ Some j → j < n
+    go true later f = omega (arith, each 0 p (omega arith), some_one p.candidate j f)
+    go false later f = later f
+
+-- the entries below a place ascend
+pub record AscendsTo (table : List Pick) (n : ℕ) : Type 0 where
+  pub each : (i j : ℕ) (d : Pick) → i < j → j < n → (slice_index_or table i d).t.0 < (slice_index_or table j d).t.0
+
+pub ascends_more : (table : List Pick) (n : ℕ) (d e : Pick) → 0 < n → n < length table → (slice_index_or table (n - 1) d).t.0 < (slice_index_or table n e).t.0 → AscendsTo table n → AscendsTo table (n + 1)
+ascends_more table n d e some lt less up = record { each = λ i j f before inside. go i j f before inside (cases_eq j n) (cases_eq i (n - 1)) }
+  where
+    last : (f : Pick) → (slice_index_or table (n - 1) f).t.0 < (slice_index_or table n f).t.0
+    last f = omega (arith, less, ap (λ (p : Pick). p.t.0) (get_or_default table (n - 1) d f (omega arith)), ap (λ (p : Pick). p.t.0) (get_or_default table n e f lt))
+
+    go : (i j : ℕ) (f : Pick) → i < j → j < n + 1 → ((j ≡ n) ⊎ (j ≡ n → ⊥)) → ((i ≡ n - 1) ⊎ (i ≡ n - 1 → ⊥)) → (slice_index_or table i f).t.0 < (slice_index_or table j f).t.0
+    go i j f before inside (inr other) second = up.each i j f before (omega (arith, inside, other))
+    go i j f before inside (inl same) (inl first) = omega (
+      arith,
+      last f,
+      ap (λ (k : ℕ). (slice_index_or table k f).t.0) same,
+      ap (λ (k : ℕ). (slice_index_or table k f).t.0) first,
+    )
+    go i j f before inside (inl same) (inr first) = omega (
+      arith,
+      last f,
+      up.each i (n - 1) f (omega (arith, before, same, first)) (omega arith),
+      ap (λ (k : ℕ). (slice_index_or table k f).t.0) same,
+    )
+
+pub ascends_whole : (table : List Pick) (n : ℕ) → length table ≤ n → AscendsTo table n → Ascends table
+ascends_whole table n le up = record { each = λ i j d before inside. up.each i j d before (omega (arith, le, inside)) }
+
+pub ascends_not : (table : List Pick) (n : ℕ) (d e : Pick) → 0 < n → n < length table → (slice_index_or table n e).t.0 ≤ (slice_index_or table (n - 1) d).t.0 → Ascends table → ⊥
+ascends_not table n d e some lt more up = absurd (omega (arith, more, up.each (n - 1) n e (omega arith) lt, ap (λ (p : Pick). p.t.0) (get_or_default table (n - 1) d e (omega arith))))

@@ -1,5 +1,5 @@
 -- The system that bodies mean, with its inequalities and what each reads.
-use Rattle.std.specs.Prelude.{◌≡◌, ◌≢◌, ℕ, zero, suc, ◌<◌, Bool, true, false, ◌||◌, ◌==◌, List, length, Contains, Option, Some, None, slice_index_or, [], nat_lt}
+use Rattle.std.specs.Prelude.{◌≡◌, ◌≢◌, ℕ, zero, suc, Bool, true, false, ◌||◌, ◌==◌, List, length, Contains, Option, Some, None, slice_index_or, [], nat_lt}
 use Rattle.wf_base.specs.declared.ids.NodeId.{NodeId}
 use Rattle.wf_lattice.specs.Words.{words_of}
 use Rattle.wf_lattice.specs.declared.kind.NodeKind.{NodeKind}
@@ -13,7 +13,7 @@ use Rattle.wf_system.specs.declared.inequality.ValueOp.TheVariants.{Token, IntIs
 use Rattle.wf_system.specs.declared.inequality.Inequality.{Inequality}
 use Rattle.wf_system.specs.Shapes.{shape_at, row_at}
 use Rattle.wf_system.specs.Sides.{pick_of, table_of}
-use Rattle.wf_system.specs.System.{Tables}
+use Rattle.wf_system.specs.System.{Tables, Least}
 use Rattle.wf_system.specs.Fits.{AreShaped, Fits}
 
 -- what a shape, a threshold and a side table say together
@@ -40,6 +40,9 @@ pub record System : Type 0 where
   pub most : ℕ
   pub side : Side
   pub rows : List (Inequality NodeId)
+
+abbrev pub system_of : List NodeShape → ℕ → Side → List (Inequality NodeId) → System
+system_of nodes most side rows = record { nodes = nodes; most = most; side = side; rows = rows }
 
 abbrev pub tables : System → Tables NodeId
 tables s = tables_of s.nodes s.most s.side
@@ -107,6 +110,19 @@ value_reads same t (IfNull a) to n = same a n || same t.inst n
 -- the nodes that an inequality reads
 abbrev pub reads : {N : Type 0} → (N → N → Bool) → Tables N → Inequality N → N → Bool
 reads same t q n = guard_reads same t q.guard n || value_reads same t q.value (t.kind q.target) n
+
+-- words stand for the least solution of the system that is at least other words
+abbrev pub IsSolved : System → List ℕ → List ℕ → Type 0
+IsSolved s old new = Least (tables s) (Contains s.rows) (rows_at s.nodes old) (rows_at s.nodes new)
+
+-- What a contract sees of a solution: its words, the system, and the words that it is at least.
+pub record Solved : Type 0 where
+  pub system : System
+  pub start : List ℕ
+  pub words : List ℕ
+
+abbrev pub solved_of : System → List ℕ → List ℕ → Solved
+solved_of system start words = record { system = system; start = start; words = words }
 
 -- a list has the inequalities of the system that read the node, and no other
 pub record AreReaders (s : System) (node : NodeId) (list : List (Inequality NodeId)) : Type 0 where

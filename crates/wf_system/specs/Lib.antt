@@ -7,3 +7,5 @@ pub mod Sides
 pub mod Bodies
 pub mod ReadersList
 pub mod Numbers
+pub mod Shaped
+pub mod Kept

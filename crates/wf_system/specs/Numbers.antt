@@ -1,5 +1,5 @@
 -- Names of nodes and their numbers: an inequality with numbers for names, and tables that say the same of both.
-use Rattle.std.specs.Prelude.{◌≡◌, ℕ, Option, Some, None, MatchOption, option_map, option_and_then}
+use Rattle.std.specs.Prelude.{◌≡◌, ℕ, List, Contains, Option, Some, None, MatchOption, option_map, option_and_then}
 use Rattle.wf_system.specs.declared.inequality.Guard.{Guard}
 use Rattle.wf_system.specs.declared.inequality.Guard.TheVariants.{Always, NonEmpty, HasType, HasUnder, Linked}
 use Rattle.wf_system.specs.declared.inequality.ValueOp.{ValueOp}
@@ -69,6 +69,11 @@ pub record NamedRow {N K : Type 0} (number : N → Option K) (System : Inequalit
   pub there : System q
   pub numbered : Inequality K
   pub renamed : IsRenamed number q numbered
+
+-- a list has the inequalities of another by their numbers, those whose nodes are all there, and no other
+pub record AreNumbered {N K : Type 0} (number : N → Option K) (named : List (Inequality N)) (numbered : List (Inequality K)) : Type 0 where
+  pub each : (r : Inequality K) → Contains numbered r → NumberedRow number (Contains named) r
+  pub all : (r : Inequality K) → NumberedRow number (Contains named) r → Contains numbered r
 
 -- the elements of a type have a node by name and one by number, or neither
 abbrev pub SameElem : {N K : Type 0} → (N → Option K) → Option N → Option K → Type 0

@@ -1,4 +1,4 @@
-ghost use Rattle.std.specs.Prelude.{◌≡◌, ◌<◌, None, [], length, slice_index_or};
+ghost use Rattle.std.specs.Prelude.{◌≡◌, ◌<◌, ◌↔◌, ℕ, None, [], length, slice_index, slice_index_or, IsTrue};
 ghost use Rattle.wf_system.specs.Sides.{pick_of, table_of, Ascends, StartsAt, HasTables};
 
 use crate::pick::Pick;
@@ -52,8 +52,54 @@ fn picked(table: &[Pick], t: u64) -> Option<u32>
     Some(pick.candidate)
 }
 
+/// Whether tables can be those of call sites: each ascends by type, and each site has one.
+pub fn have_tables(tables: &[Items<Pick>], sites: &[u32]) -> bool
+    ensures { IsTrue result ↔ HasTables tables.now sites.now }
+{
+    if !are_below(sites, tables.len()) {
+        return false;
+    }
+    all_ascend(tables)
+}
+
+/// Whether all numbers are below another.
+fn are_below(numbers: &[u32], count: usize) -> bool
+    ensures { IsTrue result ↔ ((i : ℕ) → i < length numbers.now → slice_index numbers.now i < count) }
+{
+    for number in numbers {
+        if *number as usize >= count {
+            return false;
+        }
+    }
+    true
+}
+
+/// Whether each table ascends by type.
+fn all_ascend(tables: &[Items<Pick>]) -> bool
+    ensures { IsTrue result ↔ ((i : ℕ) → i < length tables.now → Ascends (slice_index_or tables.now i [])) }
+{
+    for table in tables {
+        if !ascends(table.as_slice()) {
+            return false;
+        }
+    }
+    true
+}
+
+/// Whether a table has each type once, in order.
+fn ascends(table: &[Pick]) -> bool
+    ensures { IsTrue result ↔ Ascends table.now }
+{
+    for i in 1..table.len() {
+        if table[i - 1].t.0 >= table[i].t.0 {
+            return false;
+        }
+    }
+    true
+}
+
 impl Side {
-    /// The tables of a system. Each table ascends by type, and each site has one.
+    /// The tables of a system. Each table ascends by type, and each site has one, as `have_tables` tells.
     pub fn new(
         inst: NodeId,
         elems: Items<Option<NodeId>>,
@@ -126,7 +172,16 @@ impl Side {
         requires { site < length self.now.sites }
         ensures { result ≡ pick_of (table_of self.now.tables self.now.sites site) t }
     {
+        picked(self.table(site), t)
+    }
+
+    /// What types pick at a site.
+    pub(crate) fn table(&self, site: u32) -> &[Pick]
+        requires { site < length self.now.sites }
+        ensures table { result.now ≡ table_of self.now.tables self.now.sites site }
+        ensures ascends { Ascends result.now }
+    {
         let table = self.sites.as_slice()[site as usize];
-        picked(self.tables.as_slice()[table as usize].as_slice(), t)
+        self.tables.as_slice()[table as usize].as_slice()
     }
 }

@@ -1,4 +1,4 @@
 use Rattle.wf_system.proofs.laws.least_is_one.Goals as goal
 
 pub returns : goal.returns
-returns c = λ t rows seeds x y p q. p.least y q.solves
+returns g c = λ t rows seeds x y p q. p.least y q.solves

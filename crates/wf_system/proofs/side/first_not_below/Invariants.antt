@@ -1,5 +1,4 @@
-use Rattle.std.proofs.Common.{ℕ, ◌-◌, ◌<◌, ◌≤◌, length, slice_index_or}
-use Rattle.wf_system.specs.declared.pick.Pick.{Pick}
+use Rattle.std.proofs.Common.{◌-◌}
 use Rattle.wf_system.proofs.SideLaws.{Narrows}
 use Rattle.wf_system.proofs.side.first_not_below.Given as goal
 
