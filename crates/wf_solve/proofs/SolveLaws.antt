@@ -1,6 +1,6 @@
 -- What a raise does to the inequalities of a system: those that don't read the target stay met, and so does the one that
 -- is raised.
-use Rattle.std.proofs.Common.{◌≡◌, ℕ, zero, suc, ◌+◌, ◌-◌, ◌*◌, ◌^◌, ◌<◌, ◌≤◌, Bool, true, false, if◌then◌else◌, ◌⊎◌, inl, inr, List, [], ◌∷◌, length, slice_index, slice_index_or, nat_lt, Contains, refl, sym, ap, ◌∙◌, subst, subst₂, arith, eq-eqb, ltb-true}
+use Rattle.std.proofs.Common.{◌≡◌, ℕ, zero, suc, ◌+◌, ◌-◌, ◌*◌, ◌^◌, ◌<◌, ◌≤◌, Bool, true, false, ◌||◌, if◌then◌else◌, ◌⊎◌, inl, inr, List, [], ◌∷◌, length, slice_index, slice_index_or, nat_lt, Contains, refl, sym, ap, ◌∙◌, subst, subst₂, arith, eq-eqb, ltb-true}
 use Rattle.std.proofs.lemmas.Bool.{cases_eq, cases_lt, cases_order, true≢false, or_left, or_right}
 use Rattle.std.proofs.lemmas.List.{get_or_past}
 use Rattle.wf_base.specs.declared.ids.NodeId.{NodeId}
@@ -14,14 +14,16 @@ use Rattle.wf_system.specs.declared.side.Side.{Side}
 use Rattle.wf_system.specs.declared.inequality.Inequality.{Inequality}
 use Rattle.wf_system.specs.Shapes.{no_node, shape_at, all_words, IsLaidOut}
 use Rattle.wf_system.specs.System.{Tables, AtLeast, IsMet, guard_holds, given}
-use Rattle.wf_system.specs.Fits.{AreShaped, Fits}
-use Rattle.wf_system.specs.Bodies.{System, tables, tables_of, rows_at, is_node, guard_reads, value_reads, reads, AreReaders, SystemFits}
+use Rattle.wf_system.specs.declared.inequality.Guard.{Guard}
+use Rattle.wf_system.specs.declared.inequality.Guard.TheVariants.{Always, NonEmpty, HasType, HasUnder, Linked}
+use Rattle.wf_system.specs.Fits.{GuardIsThere, AreShaped, Fits}
+use Rattle.wf_system.specs.Bodies.{System, IsSolved, tables, tables_of, rows_at, is_node, guard_reads, value_reads, reads, AreReaders, SystemFits}
 use Rattle.wf_system.proofs.ShapeLaws.{nodes_apart, node_within}
 use Rattle.wf_system.proofs.GrowLaws.{guard_rises, value_rises}
 use Rattle.wf_eval.specs.Raising.{Raises}
-use Rattle.wf_solve.specs.Work.{Work, is_listed, how_many, Adds, Takes, IsDone}
+use Rattle.wf_solve.specs.Work.{Work, is_listed, how_many, Adds, Takes, IsDone, HasAll}
 use Rattle.wf_solve.proofs.WorkLaws.{one_more, one_less, all_at_most}
-use Rattle.wf_solve.specs.Solving.{HasSource, IsCovered, IsCoveredBut, IsBetween, StaysBetween, Visiting, IsSolved, bits_set, IsPaid, IsRunning}
+use Rattle.wf_solve.specs.Solving.{HasSource, IsCovered, IsCoveredBut, IsBetween, StaysBetween, Visiting, bits_set, IsPaid, IsRunning}
 
 -- the words of another node lie outside those of a node
 outside : (nodes : List NodeShape) (n to j : ℕ) → IsLaidOut nodes → to < length nodes → (n ≡ to → ⊥) → j < (shape_at nodes n).words
@@ -232,6 +234,41 @@ keeps_added n m old new a h = go (cases_eq m n)
     go : ((m ≡ n) ⊎ (m ≡ n → ⊥)) → is_listed new m ≡ true
     go (inl same) = ap (is_listed new) same ∙ a.there
     go (inr other) = a.others m other ∙ h
+
+pub between_itself : (s : System) (words : List ℕ) → IsBetween s words words
+between_itself s words = record { same = refl; grown = within_itself (words_of words); below = λ y solves. solves.above }
+
+-- ---- a list of all nodes
+
+-- a node of the system that an inequality reads
+record Source (s : System) (q : Inequality NodeId) : Type 0 where
+  node : NodeId
+  there : node.0 < length s.nodes
+  read : guard_reads is_node (tables s) q.guard node ≡ true
+
+source_at : (s : System) (g : Guard NodeId) → (g ≡ Always → ⊥) → GuardIsThere (tables s) g → (n : NodeId) × (n.0 < length s.nodes) × (guard_reads is_node (tables s) g n ≡ true)
+source_at s Always apart there = absurd (apart refl)
+source_at s (NonEmpty n) apart there = (n, ltb-true n.0 (length s.nodes) there, eq-eqb n.0 n.0 refl)
+source_at s (HasType c) apart there = (s.side.inst, ltb-true s.side.inst.0 (length s.nodes) there, eq-eqb s.side.inst.0 s.side.inst.0 refl)
+source_at s (HasUnder u) apart there = (s.side.inst, ltb-true s.side.inst.0 (length s.nodes) there.0, eq-eqb s.side.inst.0 s.side.inst.0 refl)
+source_at s (Linked n j) apart there = (n, ltb-true n.0 (length s.nodes) there, eq-eqb n.0 n.0 refl)
+
+source_of : (s : System) (q : Inequality NodeId) → (q.guard ≡ Always → ⊥) → GuardIsThere (tables s) q.guard → Source s q
+source_of s q apart there = let found : (n : NodeId) × (n.0 < length s.nodes) × (guard_reads is_node (tables s) q.guard n ≡ true) = source_at s q.guard apart there in record { node = found.0; there = found.1; read = found.2 }
+
+pub covered_by_all : (s : System) (words : List ℕ) (work : Work) → SystemFits s → HasAll work → work.nodes ≡ length s.nodes → IsCovered s words work
+covered_by_all s words work fits all many = record {
+  each = λ q there.
+      let source : Source s q = source_of s q (fits.seeds_apart q there) (fits.each q there).guard_there in
+      inr (record {
+        node = source.node;
+        read = or_left_true (guard_reads is_node (tables s) q.guard source.node) (value_reads is_node (tables s) q.value ((tables s).kind q.target) source.node) source.read;
+        listed = all.each source.node.0 (omega (arith, source.there, many));
+      });
+}
+  where
+    or_left_true : (a b : Bool) → a ≡ true → (a || b) ≡ true
+    or_left_true a b e = ap (λ (x : Bool). x || b) e
 
 -- ---- what steps are paid by
 

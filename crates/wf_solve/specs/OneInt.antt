@@ -1,5 +1,5 @@
 -- The smallest system, which the tests solve: one int, and no inequality.
-use Rattle.std.specs.Prelude.{◌≡◌, ℕ, List, [], ◌∷◌}
+use Rattle.std.specs.Prelude.{◌≡◌, List, [], ◌∷◌}
 use Rattle.wf_lattice.specs.declared.kind.NodeKind.TheVariants as kinds
 use Rattle.wf_system.specs.declared.node_shape.NodeShape.{NodeShape}
 use Rattle.wf_system.specs.declared.side.Side.{Side}

@@ -3,7 +3,7 @@ use Rattle.std.specs.Prelude.{◌≡◌, ◌⊎◌, ℕ, ◌+◌, ◌*◌, ◌�
 use Rattle.wf_base.specs.declared.ids.NodeId.{NodeId}
 use Rattle.wf_lattice.specs.Words.{IsWithin, words_of, counted}
 use Rattle.wf_system.specs.declared.inequality.Inequality.{Inequality}
-use Rattle.wf_system.specs.System.{IsBelow, IsMet, Solves, Least}
+use Rattle.wf_system.specs.System.{IsBelow, IsMet, Solves}
 use Rattle.wf_system.specs.Bodies.{System, tables, rows_at, is_node, reads}
 use Rattle.wf_solve.specs.Work.{Work, is_listed, how_many}
 
@@ -22,10 +22,6 @@ pub record IsBetween (s : System) (old new : List ℕ) : Type 0 where
   pub same : length new ≡ length old
   pub grown : IsWithin (words_of old) (words_of new)
   pub below : (y : NodeId → ℕ → ℕ) → Solves (tables s) (Contains s.rows) (rows_at s.nodes old) y → IsBelow (tables s) (rows_at s.nodes new) y
-
--- the words stand for the least solution that is at least the earlier ones
-abbrev pub IsSolved : System → List ℕ → List ℕ → Type 0
-IsSolved s old new = Least (tables s) (Contains s.rows) (rows_at s.nodes old) (rows_at s.nodes new)
 
 -- each inequality is met, or has a source on the list, or reads the node
 pub record IsCoveredBut (s : System) (node : NodeId) (words : List ℕ) (work : Work) : Type 0 where

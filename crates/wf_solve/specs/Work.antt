@@ -37,6 +37,14 @@ pub record Takes (n : ℕ) (old new : Work) : Type 0 where
 pub record IsDone (work : Work) : Type 0 where
   pub each : (m : ℕ) → is_listed work m ≡ false
 
+-- where the node is the one that comes last, no other is on the list
+abbrev pub IsLast : ℕ → ℕ → Work → Type 0
+IsLast n last work = n ≡ last → (m : ℕ) → m ≢ last → is_listed work m ≡ false
+
+-- each node that the list was opened for is on it
+pub record HasAll (work : Work) : Type 0 where
+  pub each : (m : ℕ) → m < work.nodes → is_listed work m ≡ true
+
 -- there is a bit for each node, and none is set for another number
 pub record IsKept (work : Work) : Type 0 where
   pub room : length work.bits ≡ work.nodes / 64 + 1

@@ -5,7 +5,7 @@ mod solver;
 mod steps;
 mod worklist;
 
-pub use solver::solve;
+pub use solver::{solution, solve, solve_all};
 pub use steps::Steps;
 pub use worklist::Worklist;
 

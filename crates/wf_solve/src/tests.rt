@@ -1,5 +1,6 @@
 //! The list of work, and the smallest system.
 
+mod made;
 mod one_int;
 
 use crate::worklist::Worklist;

@@ -1,6 +1,6 @@
 ghost use Rattle.std.specs.Prelude.{◌≡◌, ◌≢◌, ◌<◌, ◌≤◌, ℕ, length, MatchOption, IfSome, IfNone, IfOk, slice_index};
 ghost use Rattle.std.specs.Int.{bit_at};
-ghost use Rattle.wf_solve.specs.Work.{Adds, Takes, IsDone};
+ghost use Rattle.wf_solve.specs.Work.{Adds, Takes, IsDone, HasAll, IsLast};
 
 use std::alloc::{AllocError, Global};
 use std::marker::Model;
@@ -57,6 +57,18 @@ impl Worklist {
         Ok(Worklist { nodes, bits, at: 0 })
     }
 
+    /// A list of all nodes below a number.
+    pub fn all(alloc: Global, nodes: u32) -> Result<Worklist, AllocError>
+        ensures all { IfOk result (λ w. HasAll w) }
+        ensures nodes { IfOk result (λ w. w.nodes ≡ nodes) }
+    {
+        let mut work = Worklist::open(alloc, nodes)?;
+        for n in 0..nodes {
+            work.add(NodeId(n));
+        }
+        Ok(work)
+    }
+
     /// Puts a node on the list.
     pub fn add(&mut self, n: NodeId)
         requires { n.0 < self.old.nodes }
@@ -76,6 +88,28 @@ impl Worklist {
                 Some(place) => Some(self.take_at(place)),
                 None => None,
             },
+        }
+    }
+
+    /// Takes a node off the list, if there is one, and that one only where no other is there.
+    pub fn take_before(&mut self, last: NodeId) -> Option<NodeId>
+        ensures taken { MatchOption result (IsDone self.old × (self.new ≡ self.old)) (λ n. Takes n.0 self.old self.new) }
+        ensures order { IfSome result (λ n. IsLast n.0 last.0 self.old) }
+    {
+        match self.take() {
+            None => None,
+            Some(first) => {
+                if first.0 != last.0 {
+                    return Some(first);
+                }
+                match self.take() {
+                    None => Some(first),
+                    Some(other) => {
+                        self.add(first);
+                        Some(other)
+                    }
+                }
+            }
         }
     }
 
