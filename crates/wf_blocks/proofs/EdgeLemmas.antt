@@ -137,7 +137,7 @@ first_handler c catchers place to rest None e h = or_right (is_handler to c) (li
 first_handler c catchers place to rest (Some t) e (zero, lt, is) = or_left (is_handler to c) (list_any (is_handler to) catchers) (handler_is c t to (target_is c (covers place c) t e) is)
 first_handler c catchers place to rest (Some t) e (suc k, lt, is) = or_right (is_handler to c) (list_any (is_handler to) catchers) (rest (k, omega arith, is))
 
-handler_any : (catchers : List Catcher) (place to : ℕ) → Contains (filter_map (caught_by place) catchers) to → list_any (is_handler to) catchers ≡ true
+pub handler_any : (catchers : List Catcher) (place to : ℕ) → Contains (filter_map (caught_by place) catchers) to → list_any (is_handler to) catchers ≡ true
 handler_any [] place to (k, lt, is) = absurd (omega arith)
 handler_any (c ∷ catchers) place to h = first_handler c catchers place to (λ r. handler_any catchers place to r) (caught_by place c) refl h
 

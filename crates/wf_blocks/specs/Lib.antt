@@ -3,6 +3,7 @@ pub mod Answers
 pub mod Bodies
 pub mod Flowing
 pub mod Graphs
+pub mod Kinds
 pub mod Methods
 pub mod Places
 pub mod Rows

@@ -5,6 +5,7 @@ ghost use Rattle.std.specs.Option.{option_map_or};
 ghost use Rattle.wf_blocks.specs.Answers.{most, step_pc, place_of, edges_in, AreReached, ReachesPc, HasDepth, HasSlots};
 ghost use Rattle.wf_blocks.specs.Bodies.{graph_of, starts_at, BodyFits};
 ghost use Rattle.wf_blocks.specs.Graphs.{BadPaths, KindIs, Reached};
+ghost use Rattle.wf_blocks.specs.Kinds.{HasKindIs, HasSlotCount, HasMarks};
 ghost use Rattle.wf_blocks.specs.Methods.{body_of, HasShape};
 ghost use Rattle.wf_blocks.specs.declared.blocks.ShapeFault.TheVariants.{Shape};
 
@@ -183,6 +184,15 @@ impl Blocks {
         } else {
             SlotKind::Unused
         }
+    }
+
+    /// Each place that a path reaches has one number of slots, and each slot there has a kind. Those places can be marked.
+    pub fn has_kinds(&self)
+        ensures kinds { (place slot : ℕ) → Reached (graph_of self.now) place → HasKindIs (graph_of self.now) place slot }
+        ensures slots { (place : ℕ) → Reached (graph_of self.now) place → HasSlotCount self.now place }
+        ensures marks { HasMarks self.now }
+    {
+        let _body = &self.body;
     }
 
     /// Whether a block starts at a place.
