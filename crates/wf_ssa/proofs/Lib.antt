@@ -1,0 +1,9 @@
+pub mod BackLemmas
+pub mod FillLemmas
+pub mod FreshLemmas
+pub mod MeetLemmas
+pub mod MoveLemmas
+pub mod OnceLemmas
+pub mod ThereLemmas
+pub mod TraceLemmas
+pub mod UsedLemmas
