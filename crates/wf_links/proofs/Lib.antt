@@ -1,0 +1,11 @@
+mod Callable
+mod Calling
+mod Choosing
+mod Linking
+mod Masks
+mod Pairing
+mod SameCalls
+mod SharedCalls
+mod ShortCodes
+mod Sorting
+mod Tables
