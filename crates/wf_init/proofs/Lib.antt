@@ -1,0 +1,2 @@
+mod OneOrder
+pub mod Walking

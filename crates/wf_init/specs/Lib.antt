@@ -1,0 +1,2 @@
+pub mod Initializers
+pub mod Order
