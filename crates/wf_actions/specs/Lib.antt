@@ -1,0 +1,4 @@
+pub mod Actions
+pub mod Literals
+pub mod Named
+pub mod Operands
