@@ -1,0 +1,13 @@
+mod ArithmeticLaws
+mod CallsRun
+mod ClassesRun
+mod FailingRun
+mod NativesRun
+mod NothingRun
+mod NumbersRun
+mod ObjectsRun
+mod PieceLaws
+mod RootsRun
+mod Running
+mod StartingRun
+mod WorkingRun
