@@ -1,0 +1,4 @@
+mod Bands
+mod Counts
+mod OwnNumbers
+mod There
