@@ -1,7 +1,11 @@
 //! What whole small worlds answer.
 
+mod actions;
 mod binding;
+mod init;
+mod links;
 mod made;
 mod members;
 mod programs;
+mod types;
 mod words;
