@@ -105,7 +105,7 @@ fn first_of(depths: &Items<usize>) -> usize {
 
 fn said(action: &Action) -> Said {
     match action {
-        Action::Computes(Computation::Int(n)) => (b"int", *n as usize, 0),
+        Action::Computes(Computation::Int(n)) => (b"int", n.unsigned_abs() as usize, 0),
         Action::Literal(Ok(literal)) => {
             (b"literal", literal.class.0 as usize, literal.fields.len())
         }
