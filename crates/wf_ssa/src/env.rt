@@ -1,14 +1,14 @@
 //! The environments of a method.
 
-ghost use Rattle.std.specs.Prelude.{◌≡◌, ℕ, ◌<◌, List, length, Some, None, IfOk};
-ghost use Rattle.wf_blocks.specs.Answers.{place_of};
-ghost use Rattle.wf_ssa.specs.Environments.{name_at, IsKnown};
+ghost use Rattle.std.specs.Prelude.{◌≡◌, ℕ, ◌<◌, Bool, List, length, Some, None, IfOk};
+ghost use Rattle.wf_blocks.specs.Answers.{place_of, AreReached};
+ghost use Rattle.wf_ssa.specs.Environments.{name_at, fails_there, meets, IsKnown};
 ghost use Rattle.wf_ssa.specs.Keeping.{row_at, AreMeets, AreFails, AreSound, IsLeft};
 ghost use Rattle.wf_ssa.specs.declared.before.Before.{Before};
 
 use crate::before::Before;
 use crate::fill::{leave_noted, pass};
-use crate::marks::{failing_marks, meeting_marks};
+use crate::marks::{failing_marks, is_marked, meeting_marks};
 use crate::name::FlowName;
 use crate::walk::{flow_in, predicate_in};
 use std::alloc::{AllocError, Global};
@@ -45,8 +45,8 @@ impl<'a> Model for Env<'a> {
 }
 
 impl<'a> Env<'a> {
-    /// The flow of a slot in front of the place of this number.
-    fn flow_in(&self, place: usize, slot: usize) -> FlowName
+    /// The flow of a slot in front of the place of this number, as `flow` says.
+    pub fn flow_in(&self, place: usize, slot: usize) -> FlowName
         requires { place < length self.now.0.steps }
         ensures { (k : Before) → IsKnown self.now.0 self.now.1 place k → result ≡ name_at k.names slot }
     {
@@ -60,7 +60,7 @@ impl<'a> Env<'a> {
     }
 
     /// By what the place of this number is reached.
-    fn predicate_in(&self, place: usize) -> FlowName
+    pub fn predicate_in(&self, place: usize) -> FlowName
         requires { place < length self.now.0.steps }
         ensures { (k : Before) → IsKnown self.now.0 self.now.1 place k → result ≡ k.predicate }
     {
@@ -71,6 +71,20 @@ impl<'a> Env<'a> {
             self.known.as_slice(),
             place,
         )
+    }
+
+    /// Whether ways meet at the place of this number: it is a handler, or other than one way leads there.
+    pub fn meets(&self, place: usize) -> bool
+        ensures { (marks : List Bool) → AreReached self.now.0 marks → place < length self.now.0.steps → result ≡ meets self.now.0 marks place }
+    {
+        is_marked(self.meets.as_slice(), place)
+    }
+
+    /// Whether the resolution at a place in bytes fails.
+    pub fn fails(&self, pc: u16) -> bool
+        ensures { result ≡ fails_there self.now.1 pc }
+    {
+        is_marked(self.fails.as_slice(), pc as usize)
     }
 
     /// Where the value of a slot in front of a place comes from, if a path reaches the place and the slot is used

@@ -14,6 +14,8 @@ mod walk;
 pub use env::{Env, environments};
 pub use laws::{environments_agree, reached_are_known, results_are_fresh, used_slots_have_flows};
 pub use name::FlowName;
+pub use rename::{linked, operand_slot, refines};
+pub use walk::pc_at;
 
 #[cfg(test)]
 mod tests;
