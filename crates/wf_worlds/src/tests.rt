@@ -6,6 +6,7 @@ mod init;
 mod links;
 mod made;
 mod members;
+mod nodes;
 mod programs;
 mod types;
 mod words;

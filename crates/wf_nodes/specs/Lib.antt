@@ -1,0 +1,4 @@
+pub mod Numbering
+pub mod Sharing
+pub mod Tables
+pub mod Thrown
