@@ -1,0 +1,4 @@
+mod Lists
+mod Sites
+mod Codes
+mod Faults

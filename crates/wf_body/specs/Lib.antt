@@ -1,0 +1,5 @@
+pub mod Each
+pub mod Parts
+pub mod Sources
+pub mod Methods
+pub mod Reading
