@@ -1,4 +1,1 @@
-mod Bands
-mod Counts
-mod OwnNumbers
-mod There
+mod Numbers

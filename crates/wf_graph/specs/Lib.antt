@@ -1,6 +1,6 @@
-pub mod Parts
+pub mod Bodies
+pub mod BodyNodes
 pub mod BodyRows
-pub mod MethodBody
-pub mod MethodSystem
 pub mod Numbering
+pub mod MethodSystem
 pub mod Programs

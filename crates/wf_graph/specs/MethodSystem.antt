@@ -1,106 +1,30 @@
 -- The inequalities of one method, by numbers (this project's own, after SkipFlow, CGO 2025).
-use Rattle.std.specs.Prelude.{◌≡◌, ℕ, ◌+◌, ◌<◌, Bool, true, false, not, ◌||◌, List, [], ◌∷◌, ◌++◌, length, Option, Some, None, option_map, slice_get, slice_index_or, if◌then◌else◌}
-use Rattle.std.specs.List.{list_any}
+use Rattle.std.specs.Prelude.{◌≡◌, ℕ, List, Option, option_map}
 use Rattle.wf_base.specs.declared.ids.NodeId.{NodeId}
-use Rattle.wf_base.specs.declared.ids.TargetId.{TargetId}
-use Rattle.wf_base.specs.declared.ids.TypeId.{TypeId}
-use Rattle.wf_data.specs.declared.class_info.FieldInfo.{FieldInfo}
-use Rattle.wf_data.specs.declared.class_info.MethodInfo.{MethodInfo}
-use Rattle.wf_data.specs.Flags.{is_abstract, is_static}
-use Rattle.wf_descriptor.specs.declared.descriptor.FieldDesc.{FieldDesc}
-use Rattle.wf_descriptor.specs.declared.descriptor.MethodDesc.{MethodDesc}
-use Rattle.wf_descriptor.specs.Descriptors.{SpellsField, SpellsMethod, is_field_descriptor, is_method_descriptor}
-use Rattle.wf_operation.specs.PoolSlots.{is_followed}
-use Rattle.wf_classes.specs.Members.{field_keys, method_keys, member_count}
-use Rattle.wf_classes.specs.Own.{IsField, IsMethod}
-use Rattle.wf_subtype.specs.declared.reference.Reference.{Reference}
-use Rattle.wf_subtype.specs.References.{component_of}
-use Rattle.wf_subtype.specs.Subtypes.{AllTypes, IsTargetOf}
-use Rattle.wf_subtype.specs.Universe.{type_of}
 use Rattle.wf_system.specs.declared.inequality.Inequality.{Inequality}
-use Rattle.wf_rows.specs.declared.context.ArrayType.{ArrayType}
 use Rattle.wf_rows.specs.declared.node.Node.{Node}
 use Rattle.wf_rows.specs.declared.node.Own.{Own}
-use Rattle.wf_rows.specs.declared.throwable.Throwable.{Throwable}
-use Rattle.wf_rows.specs.Errors.{class_name}
-use Rattle.wf_rows.specs.Nodes.{MethodNodes, Shared, no_nodes, method_nodes}
+use Rattle.wf_rows.specs.Nodes.{Shared}
 use Rattle.wf_rows.specs.Renaming.{all_renamed}
-use Rattle.wf_graph.specs.Parts.{Parts}
-use Rattle.wf_graph.specs.BodyRows.{Body, body_nodes, body_rows}
-use Rattle.wf_graph.specs.MethodBody.{Method, HasBody}
-use Rattle.wf_graph.specs.Numbering.{number_in}
+use Rattle.wf_nodes.specs.Sharing.{thrown_type}
+use Rattle.wf_body.specs.Parts.{Parts}
+use Rattle.wf_body.specs.Sources.{MethodSource}
+use Rattle.wf_graph.specs.Bodies.{Body, HasBody}
+use Rattle.wf_graph.specs.BodyNodes.{body_nodes}
+use Rattle.wf_graph.specs.BodyRows.{body_rows}
+use Rattle.wf_graph.specs.Numbering.{body_count, number_in}
 
--- ---- the nodes that bodies share
-
-abbrev pub follows : FieldDesc → Bool
-follows d = is_followed d.kind
-
--- a method returns a value that is followed, or none
-abbrev pub returns_well : Option FieldDesc → Bool
-returns_well (Some d) = follows d
-returns_well None = true
-
-abbrev pub receivers : ℕ → ℕ
-receivers flags = if is_static flags then 0 else 1
-
--- the nodes of a method by its flags and its descriptor: none where it is abstract or has a float among its parameters
-abbrev pub nodes_of_method : ℕ → MethodDesc → MethodNodes
-nodes_of_method flags desc =
-    if is_abstract flags || list_any (λ d. not (follows d)) desc.params then no_nodes
-    else record { entered = true; parameters = receivers flags + length desc.params; returned = returns_well desc.ret }
-
--- the nodes of a method by its descriptor: none where that spells nothing
-pub data AreNodesOf (info : MethodInfo) (nodes : MethodNodes) : Type 0 where
-  spelled : (desc : MethodDesc) → SpellsMethod 255 info.desc desc → nodes ≡ nodes_of_method info.flags desc → AreNodesOf info nodes
-  unspelled : is_method_descriptor 255 info.desc ≡ false → nodes ≡ no_nodes → AreNodesOf info nodes
-
-pub record HasMethodNodes (types : AllTypes) (s : Shared) (m : ℕ) : Type 0 where
-  pub class : ℕ
-  pub info : MethodInfo
-  pub is : IsMethod types.classes m class info
-  pub nodes : AreNodesOf info (method_nodes s (record { 0 = m }))
-
--- whether a field has nodes, by its descriptor
-pub data IsFollowed (info : FieldInfo) (followed : Bool) : Type 0 where
-  spelled : (desc : FieldDesc) → SpellsField info.desc desc → followed ≡ follows desc → IsFollowed info followed
-  unspelled : is_field_descriptor info.desc ≡ false → followed ≡ false → IsFollowed info followed
-
-pub record HasFieldNodes (types : AllTypes) (s : Shared) (f : ℕ) : Type 0 where
-  pub class : ℕ
-  pub info : FieldInfo
-  pub is : IsField types.classes f class info
-  pub followed : IsFollowed info (slice_index_or s.fields f false)
-
--- the array types among the first types whose components are references, in their order
-pub data AreArrays (types : AllTypes) : ℕ → List ArrayType → Type 0 where
-  none : AreArrays types 0 []
-  array : (n : ℕ) (xs : List ArrayType) (r c : Reference) (u : TargetId) → AreArrays types n xs → slice_get types.references n ≡ Some r → component_of r ≡ Some c → IsTargetOf types u.0 c
-      → AreArrays types (n + 1) (xs ++ record { array = record { 0 = n + 1 }; component = u } ∷ [])
-  other : (n : ℕ) (xs : List ArrayType) (r : Reference) → AreArrays types n xs → slice_get types.references n ≡ Some r → component_of r ≡ None → AreArrays types (n + 1) xs
-
--- what of a program says which nodes its bodies share, where so many lines of the summary copy elements
-pub record IsShared (types : AllTypes) (copies : ℕ) (s : Shared) : Type 0 where
-  pub classes : s.classes ≡ length types.classes
-  pub methods_count : length s.methods ≡ member_count (method_keys types.classes)
-  pub methods : (m : ℕ) → m < member_count (method_keys types.classes) → HasMethodNodes types s m
-  pub fields_count : length s.fields ≡ member_count (field_keys types.classes)
-  pub fields : (f : ℕ) → f < member_count (field_keys types.classes) → HasFieldNodes types s f
-  pub arrays : AreArrays types (length types.names) s.arrays
-  pub copied : s.copies ≡ copies
-
--- the type of what the machine throws, where it is a loadable class that has objects
-abbrev pub thrown_type : AllTypes → Throwable → Option TypeId
-thrown_type types error = option_map (λ t. record { 0 = t }) (type_of types.names (class_name error))
-
--- ---- the inequalities of a method
+abbrev pub node_id : ℕ → NodeId
+node_id n = record { 0 = n }
 
 -- the number of a node as the rows of a body name it, where its own nodes are numbered from `first` on
-abbrev pub node_number : Shared → ℕ → Body → Node Own → Option NodeId
-node_number s first b node = option_map (λ n. record { 0 = n }) (number_in s first (body_nodes b) node)
+abbrev pub node_number : Shared → ℕ → List Own → Node Own → Option NodeId
+node_number s first owns node = option_map node_id (number_in s first owns node)
 
 -- a method has so many nodes of its own, and exactly these inequalities
-pub record IsSystemOf (p : Parts) (s : Shared) (m : Method) (first own : ℕ) (list : List (Inequality NodeId)) : Type 0 where
+pub record IsSystemOf (p : Parts) (shared : Shared) (s : MethodSource) (first_keys first own : ℕ) (list : List (Inequality NodeId)) : Type 0 where
   pub body : Body
-  pub has : HasBody p m body
-  pub nodes : own ≡ length (body_nodes body)
-  pub rows : list ≡ all_renamed (node_number s first body) (body_rows s.arrays (thrown_type p.types) body)
+  pub has : HasBody p s body
+  pub keys : body.first_keys ≡ first_keys
+  pub nodes : own ≡ body_count body
+  pub rows : list ≡ all_renamed (node_number shared first (body_nodes body)) (body_rows shared.arrays (thrown_type p.types) body)

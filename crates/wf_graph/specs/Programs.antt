@@ -16,12 +16,8 @@ use Rattle.wf_rows.specs.Classes.{initialization_rows, instances_rows, elements_
 use Rattle.wf_rows.specs.Nodes.{Shared}
 use Rattle.wf_rows.specs.OfMethod.{in_method}
 use Rattle.wf_rows.specs.Summaries.{effect_rows}
-use Rattle.wf_graph.specs.BodyRows.{Body, body_rows}
-
--- a readable body and its method
-pub record BodyOf : Type 0 where
-  pub method : MethodId
-  pub body : Body
+use Rattle.wf_graph.specs.Bodies.{Body}
+use Rattle.wf_graph.specs.BodyRows.{body_rows}
 
 -- a line of the summary and its method
 pub record EffectOf : Type 0 where
@@ -35,7 +31,8 @@ pub record Program : Type 0 where
   pub classes : List Initialization
   pub instances : List InstanceFields
   pub effects : List EffectOf
-  pub bodies : List BodyOf
+  -- the bodies of the methods that have readable ones
+  pub bodies : List Body
 
 -- the rows that are called so in the body of a method, by their names in the program
 pub record IsIn (method : MethodId) (rows : List (Inequality (Node Own))) (q : Inequality (Node OwnOf)) : Type 0 where
@@ -45,7 +42,7 @@ pub record IsIn (method : MethodId) (rows : List (Inequality (Node Own))) (q : I
 
 -- The rows of the system. Those without a place name no node of a body, and are the same in each method.
 pub data IsRow (p : Program) (q : Inequality (Node OwnOf)) : Type 0 where
-  of_body : (b : BodyOf) → Contains p.bodies b → IsIn b.method (body_rows p.shared.arrays p.thrown b.body) q → IsRow p q
+  of_body : (b : Body) → Contains p.bodies b → IsIn b.method (body_rows p.shared.arrays p.thrown b) q → IsRow p q
   of_class : (m : MethodId) (c : Initialization) → Contains p.classes c → IsIn m (initialization_rows p.thrown c) q → IsRow p q
   of_instances : (m : MethodId) (c : InstanceFields) → Contains p.instances c → IsIn m (instances_rows c) q → IsRow p q
   of_elements : (m : MethodId) → IsIn m (elements_rows p.shared.arrays) q → IsRow p q
