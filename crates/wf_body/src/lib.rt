@@ -8,6 +8,7 @@ mod parts;
 mod reading;
 mod source;
 
+pub use failing::act_at;
 pub use parts::Parts;
 pub use reading::{Reading, read_method};
 pub use source::Source;

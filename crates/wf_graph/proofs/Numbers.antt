@@ -1,10 +1,10 @@
 -- The numbers of all nodes.
 use Rattle.std.proofs.Common.{◌≡◌, ℕ, ◌+◌, ◌<◌, ◌≤◌, List, length, Some, sym, ap, arith}
 use Rattle.wf_rows.specs.declared.node.Node.{Node}
-use Rattle.wf_rows.specs.declared.node.Node.TheVariants.{Inst, Start, Nothing, Initialized, Entered, Parameter, Returned, Held, Touched, Element, Copied, In}
+use Rattle.wf_rows.specs.declared.node.Node.TheVariants.{In}
 use Rattle.wf_rows.specs.declared.node.Own.{Own}
-use Rattle.wf_rows.specs.Nodes.{Shared, IsThere}
-use Rattle.wf_nodes.specs.Numbering.{shared_number, shared_count, AreWhole}
+use Rattle.wf_rows.specs.Nodes.{Shared}
+use Rattle.wf_nodes.specs.Numbering.{shared_number, shared_count}
 use Rattle.wf_own.specs.OwnNumbers.{own_number}
 use Rattle.wf_graph.specs.Numbering.{number_in}
 
@@ -25,3 +25,8 @@ module _ (s : Shared) (known : Known s) where
   one_node first n owns (In a) b l e f = sym (mixed first n owns b a l f e)
   one_node first n owns a (In b) l e f = mixed first n owns a b l e f
   one_node first n owns a b l e f = known.apart a b n e f
+
+  -- a number is below the count of all
+  pub number_below : (first n : ℕ) (owns : List Own) (node : Node Own) → shared_count s ≤ first → number_in s first owns node ≡ Some n → n < first + length owns
+  number_below first n owns (In own) l e = (known.within first n owns own e).1
+  number_below first n owns node l e = omega (arith, l, known.below node n e)

@@ -13,6 +13,7 @@ use Rattle.wf_blocks.specs.declared.body.Step.{Step}
 use Rattle.wf_blocks.specs.Answers.{AreReached, HasSlots}
 use Rattle.wf_blocks.specs.Bodies.{graph_of}
 use Rattle.wf_blocks.specs.Graphs.{Reached, KindIs}
+use Rattle.wf_blocks.specs.Methods.{body_of}
 use Rattle.wf_ssa.specs.declared.before.Before.{Before}
 use Rattle.wf_ssa.specs.Environments.{IsBefore, meets}
 use Rattle.wf_rows.specs.declared.action.Action.{Action}
@@ -65,7 +66,7 @@ is_switch_at step = switches step.operation
 abbrev pub keys_at : Body → ℕ → ℕ
 keys_at b place = b.first_keys + count_by is_switch_at (take place b.shape.steps)
 
--- its switches have numbers of four bytes
+-- the switches of a shape have numbers of four bytes
 abbrev pub HasKeys : ℕ → Shape → Type 0
 HasKeys first shape = first + count_by is_switch_at shape.steps < 2 ^ 32
 
@@ -94,3 +95,7 @@ pub record HasBody (p : Parts) (s : MethodSource) (b : Body) : Type 0 where
   pub reached : AreReached b.shape b.marks
   pub kinds : AreKinds b.shape b.marks b.kinds
   pub before : AreBefore b.shape (failing_in b) b.marks b.before
+
+-- its switches have numbers of four bytes
+abbrev pub HasKeysOf : MethodSource → ℕ → Type 0
+HasKeysOf s first = (placed : List Placed) (shape : Shape) → body_of s.desc s.is_static s.pool s.code placed ≡ Some shape → HasKeys first shape

@@ -1,6 +1,6 @@
 -- The rows of a body (this project's own, after SkipFlow, CGO 2025): of the entry, of its reached places with their edges and
 -- the handlers that cover them, and of its handlers.
-use Rattle.std.specs.Prelude.{ℕ, Bool, List, [], ◌++◌, Option, Some, None, slice_index_or, if◌then◌else◌}
+use Rattle.std.specs.Prelude.{ℕ, List, [], ◌++◌, Option, Some, None, slice_index_or, if◌then◌else◌}
 use Rattle.wf_base.specs.declared.ids.TypeId.{TypeId}
 use Rattle.wf_operation.specs.declared.operation.Operation.{Operation}
 use Rattle.wf_blocks.specs.declared.body.Catcher.{Catcher}
